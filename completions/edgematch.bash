@@ -17,7 +17,7 @@ _edgematch() {
     case $command in
       check) words="--workers --forks --progress --hints --help" ;;
       explain) words="--help" ;;
-      solve) words="--depth --fuel --workers --symmetries --keep --progress --hints --help" ;;
+      solve) words="--depth --fuel --workers --symmetries --progress --hints --help" ;;
       expand) words="--orbits --hints --help" ;;
       count) words="--workers --most --part --progress --help" ;;
       total) words="--help" ;;

@@ -23,7 +23,6 @@ complete -c edgematch -n "__fish_seen_subcommand_from solve" -x -l depth -d "How
 complete -c edgematch -n "__fish_seen_subcommand_from solve" -x -l fuel -d "The most branch nodes that a lemma may have, 1 to 1000000"
 complete -c edgematch -n "__fish_seen_subcommand_from solve" -x -l workers -d "How many workers search at once, 1 to 64"
 complete -c edgematch -n "__fish_seen_subcommand_from solve" -x -l symmetries -a "all board" -d "Which symmetries the certificate names: all, or board for those that leave each colour as it is"
-complete -c edgematch -n "__fish_seen_subcommand_from solve" -l keep -d "Leaves LIST and CERTIFICATE as they are until both are written; this is done in any case"
 complete -c edgematch -n "__fish_seen_subcommand_from solve" -l progress -d "Says on standard error how far it is, at most once a second"
 complete -c edgematch -n "__fish_seen_subcommand_from solve" -l hints -d "Says below a fault what is wrong and what may help, whether on a terminal or not"
 complete -c edgematch -n "__fish_seen_subcommand_from expand" -l orbits -d "Prints only one arrangement of each orbit"

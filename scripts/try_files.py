@@ -716,7 +716,7 @@ def reasons_on_a_terminal(trial):
 def reasons_with_hints(trial):
     """With `--hints` a file or a stream that is refused is named with the reason, wherever that is told."""
     trial.put("list", LIST)
-    here = b"here it doesn't stand for standard input; edgematch check reads a puzzle, a list and a certificate from there"
+    here = b"here it doesn't stand for standard input: a solve reads its puzzle from a file"
     for words, line, reason in (
             ("check nothing list list", b"cannot read puzzle\n", b"nothing: there is no such file\n"),
             ("expand puzzle nothing list", b"cannot read list\n", b"nothing: there is no such file\n"),
@@ -724,8 +724,8 @@ def reasons_with_hints(trial):
             ("solve puzzle none/made made", b"cannot write\n", b"none/made: there is no such folder\n"),
             ("solve puzzle puzzle made", b"cannot write\n", b"two of the names lead to one file\n"),
             ("solve puzzle /dev/full made", b"cannot write\n", b"/dev/full: no space is left\n"),
-            ("check - list list", b"cannot read puzzle\n",
-             b"-: there is no such file, and " + here + b", joined, where no file is named\n"),
+            ("solve - made made_too", b"cannot read puzzle\n",
+             b"-: there is no such file, and " + here + b"\n"),
     ):
         run = subprocess.run([trial.program, *words.split(), "--hints"], capture_output=True, cwd=trial.folder,
                              timeout=LONGEST, check=False)

@@ -1,4 +1,5 @@
 mod WordLemmas
+pub mod GivenLemmas
 pub mod OrderLemmas
 pub mod SolvedLemmas
 pub mod PartLemmas

@@ -3,32 +3,33 @@ use Rattle.std.proofs.Common.{◌≡◌, ◌∙◌, ℕ, List, Result, Ok, Err, 
 use Rattle.match_report.specs.AnswerText.{answer_line}
 use Rattle.byte_streams.specs.Documents.{Texts}
 use Rattle.byte_streams.specs.Moves.{Writing}
-use Rattle.byte_streams.specs.Origins.{Origin, one_source}
+use Rattle.byte_streams.specs.Origins.{Origin, one_source, two_sources}
 use Rattle.byte_streams.specs.Targets.{Target, one_sink}
 use Rattle.byte_streams.specs.declared.documents.TwoTexts.{TwoTexts}
 use Rattle.byte_streams.specs.declared.faults.Document.TheVariants as documents
 use Rattle.byte_streams.specs.declared.faults.InputFault.{InputFault}
 use Rattle.byte_streams.specs.declared.files.FileSystem.{Ghosts as FileMembers}
 use Rattle.byte_streams.specs.declared.sources.Source.{Ghosts as SourceMembers}
-use Rattle.command_words.specs.declared.places.Files.{Files}
 use Rattle.cert_check.specs.Setting.{Question}
 use Rattle.cert_check.specs.declared.faults.Answer.{Answer}
 use Rattle.cert_check.specs.declared.faults.Answer.TheVariants as answers
-use Rattle.command_runs.specs.Checking.{Answers, CheckGives, SpellCompleteList}
+use Rattle.command_runs.specs.Checking.{Answers, CheckFails, CheckGives, SpellCompleteList}
 use Rattle.match_report.specs.Statuses.{status_of}
 use Rattle.command_orders.specs.Exits.{status_exit}
-use Rattle.command_orders.specs.FileOrigins.{AllOpened, Opened, read_from_all, three_files}
-use Rattle.command_orders.specs.PlaceOrigins.{AllOpenedAt, BothOpened, OpenedAt, one_place, read_all_at, read_at, read_both, three_places, two_places}
+use Rattle.command_orders.specs.FileOrigins.{Opened}
+use Rattle.command_orders.specs.PlaceOrigins.{BothOpened, OpenedAt, one_place, read_at, read_both, two_places}
 use Rattle.command_words.specs.declared.places.Place.{Place}
-use Rattle.command_words.specs.declared.places.ThreePlaces.{ThreePlaces}
+use Rattle.command_words.specs.declared.places.Places.{Places}
 use Rattle.command_words.specs.declared.places.TwoPlaces.{TwoPlaces}
 use Rattle.command_runs.specs.Listed.{DrawFails, DrawsListed}
 use Rattle.command_runs.specs.Pictures.{DrawsPicture, PictureFails}
-use Rattle.command_orders.specs.OrderRuns.{DrawingOf, EndsBy, ThenDone}
-use Rattle.command_runs.specs.Printing.{Prints, PrintingGives}
+use Rattle.command_orders.specs.OrderRuns.{DocumentsOf, DrawingOf, EndsBy, ThenDone}
+use Rattle.command_runs.specs.Printing.{Prints, PrintingFails, PrintingGives}
 use Rattle.command_runs.specs.Runs.{Runs}
 use Rattle.command_orders.specs.declared.exits.Exit.{Exit}
 use Rattle.command_orders.specs.declared.exits.Exit.TheVariants.{Done}
+use Rattle.command_orders.specs.declared.place_runs.DocumentsPlan.{DocumentsPlan}
+use Rattle.command_orders.specs.declared.place_runs.DocumentsPlan.TheVariants as plans
 use Rattle.command_orders.specs.declared.place_runs.Drawing.{Drawing}
 use Rattle.command_orders.specs.declared.place_runs.Drawing.TheVariants.{Arrangement, Picture}
 use Rattle.match_report.specs.declared.statuses.Status.{Status}
@@ -67,14 +68,6 @@ module _ (output : Writing) where
         → Runs from gives fails (one_sink output) result → Runs from (EndsBy gives) fails (one_sink output) (ended status_exit result)
     over_documents from result run = over from from gives (EndsBy gives) fails (one_sink output) status_exit (λ t g. g) (λ f s. s) ends_by result run
 
-    -- of three that come from files
-    pub over_three : {S R W : Type 0} (system : FileMembers S R W) (source : SourceMembers R) (at : S) (files : Files) (all : AllOpened system source at files) (result : Result Status RunFault)
-        → Runs (read_from_all system source at files all) gives fails (one_sink output) result
-        → Runs (three_files system source at files) (EndsBy gives) fails (one_sink output) (ended status_exit result)
-    over_three system source at files all result run =
-        over (read_from_all system source at files all) (three_files system source at files) gives (EndsBy gives) fails (one_sink output) status_exit
-        (λ t gave. (all, gave)) (λ f stops. inr (all, stops)) ends_by result run
-
   -- what ends by nothing
   pub then_done : {T : Type 0} (from from' : Origin T) (gives : T → List ℕ → Unit {0} → Type 0) (fails : T → RunFault → Type 0)
       → ((t : T) → from.Gave t → from'.Gave t) → ((f : InputFault) → from.Stopped f → from'.Stopped f) → (result : Result (Unit {0}) RunFault)
@@ -96,27 +89,41 @@ pub drawing_over : (drawing : Drawing) (from from' : Origin TwoTexts) (output : 
 drawing_over (Arrangement number) from from' output gave stopped result run = over_origin from from' (ThenDone (DrawsListed number)) (DrawFails number) (one_sink output) gave stopped result run
 drawing_over (Picture plan) from from' output gave stopped result run = over_origin from from' (ThenDone (DrawsPicture plan.number plan.first)) (PictureFails plan.number plan.first) (one_sink output) gave stopped result run
 
-module _ {S R W I : Type 0} (system : FileMembers S R W) (source : SourceMembers R) (input : SourceMembers I) (at : S) (given later : I) where
+-- what a check of three documents comes to, so
+pub documents_over : (plan : DocumentsPlan) (from from' : Origin Texts) (output : Writing)
+    → ((t : Texts) → from.Gave t → from'.Gave t) → ((f : InputFault) → from.Stopped f → from'.Stopped f)
+    → (result : Result Exit RunFault) → DocumentsOf plan from output result → DocumentsOf plan from' output result
+documents_over (plans.Answer plan) from from' output gave stopped result run = over_origin from from' (EndsBy CheckGives) CheckFails (one_sink output) gave stopped result run
+documents_over (plans.Printing plan) from from' output gave stopped result run = over_origin from from' (EndsBy (PrintingGives plan.printing)) (PrintingFails plan.printing) (one_sink output) gave stopped result run
+
+module _ {S R W I : Type 0} (system : FileMembers S R W) (source : SourceMembers R) (at : S) (input : SourceMembers I) (given later : I) where
   -- of a puzzle that stands there
-  pub over_place : {M E : Type 0} (gives : List ℕ → M → E → Type 0) (fails : List ℕ → RunFault → Type 0) (to : Target M) (place : Place) (opened : OpenedAt system source input at given later place) (result : Result E RunFault)
-      → Runs (one_source documents.Puzzle (read_at system source input at given later place opened)) gives fails to result
-      → Runs (one_place system source input at given later place) gives fails to result
+  pub over_place : {M E : Type 0} (gives : List ℕ → M → E → Type 0) (fails : List ℕ → RunFault → Type 0) (to : Target M) (place : Place) (opened : OpenedAt system source at place) (result : Result E RunFault)
+      → Runs (one_source documents.Puzzle (read_at system source at input given later place opened)) gives fails to result
+      → Runs (one_place system source at input given later place) gives fails to result
   over_place gives fails to place opened result run =
-      over_origin (one_source documents.Puzzle (read_at system source input at given later place opened)) (one_place system source input at given later place) gives fails to (λ t gave. (opened, gave)) (λ f stops. inr (opened, stops)) result run
+      over_origin (one_source documents.Puzzle (read_at system source at input given later place opened)) (one_place system source at input given later place) gives fails to (λ t gave. (opened, gave)) (λ f stops. inr (opened, stops)) result run
 
   -- of a puzzle and a list
-  pub over_two : (drawing : Drawing) (two : TwoPlaces) (both : BothOpened system source input at given later two) (output : Writing) (result : Result Exit RunFault)
-      → DrawingOf drawing (read_both system source input at given later two both) output result
-      → DrawingOf drawing (two_places system source input at given later two) output result
+  over_two : (drawing : Drawing) (two : TwoPlaces) (both : BothOpened system source at two) (output : Writing) (result : Result Exit RunFault)
+      → DrawingOf drawing (read_both system source at input given later two both) output result
+      → DrawingOf drawing (two_places system source at input given later two) output result
   over_two drawing two both output result run =
-      drawing_over drawing (read_both system source input at given later two both) (two_places system source input at given later two) output (λ t gave. (both, gave)) (λ f stops. inr (both, stops)) result run
+      drawing_over drawing (read_both system source at input given later two both) (two_places system source at input given later two) output (λ t gave. (both, gave)) (λ f stops. inr (both, stops)) result run
 
-  -- of three documents
-  pub over_places : {M E : Type 0} (gives : Texts → M → E → Type 0) (fails : Texts → RunFault → Type 0) (to : Target M) (three : ThreePlaces) (all : AllOpenedAt system source input at given later three) (result : Result E RunFault)
-      → Runs (read_all_at system source input at given later three all) gives fails to result
-      → Runs (three_places system source input at given later three) gives fails to result
-  over_places gives fails to three all result run =
-      over_origin (read_all_at system source input at given later three all) (three_places system source input at given later three) gives fails to (λ t gave. (all, gave)) (λ f stops. inr (all, stops)) result run
+  -- where it is known where they stand
+  pub over_two_at : (drawing : Drawing) (two : TwoPlaces) (puzzle list : Place) → two.puzzle ≡ puzzle → two.list ≡ list
+      → (a : OpenedAt system source at puzzle) (b : OpenedAt system source at list) (output : Writing) (result : Result Exit RunFault)
+      → DrawingOf drawing (two_sources (read_at system source at input given later puzzle a) (read_at system source at input given later list b)) output result
+      → DrawingOf drawing (two_places system source at input given later two) output result
+  over_two_at drawing two puzzle list p l =
+      subst (λ (x : Place). (a : OpenedAt system source at x) (b : OpenedAt system source at list) (output : Writing) (result : Result Exit RunFault)
+      → DrawingOf drawing (two_sources (read_at system source at input given later x a) (read_at system source at input given later list b)) output result
+      → DrawingOf drawing (two_places system source at input given later two) output result) p
+      (subst (λ (y : Place). (a : OpenedAt system source at two.puzzle) (b : OpenedAt system source at y) (output : Writing) (result : Result Exit RunFault)
+      → DrawingOf drawing (two_sources (read_at system source at input given later two.puzzle a) (read_at system source at input given later y b)) output result
+      → DrawingOf drawing (two_places system source at input given later two) output result) l
+      (λ a b output result run. over_two drawing two (record { puzzle = a; list = b }) output result run))
 
 -- a reader of the file of a name, as it was opened and as it is later
 abbrev pub opened_as : {S R W : Type 0} (system : FileMembers S R W) (source : SourceMembers R) (at : S) (name given : List ℕ) (opened later : R)

@@ -1,5 +1,5 @@
 -- Which orders read standard input, and what the others leave of it.
-use Rattle.std.specs.Prelude.{◌≡◌, Bool, true, false}
+use Rattle.std.specs.Prelude.{◌≡◌, ◌||◌, Bool, true, false}
 use Rattle.command_words.specs.declared.orders.Order.{Order}
 use Rattle.command_words.specs.declared.orders.Order.TheVariants.{Joined, Check, Explain, ExplainPuzzle, Solve, Expand, Count, Census, Total, Show, Draw, Symmetries, Tiles}
 use Rattle.command_words.specs.declared.orders.Subject.{Subject}
@@ -10,22 +10,19 @@ use Rattle.command_words.specs.declared.places.PartPlaces.{PartPlaces}
 use Rattle.command_words.specs.declared.places.PartPlaces.TheVariants as parts
 use Rattle.command_words.specs.declared.places.Place.{Place}
 use Rattle.command_words.specs.declared.places.Place.TheVariants as one
-use Rattle.command_words.specs.declared.places.ThreePlaces.{ThreePlaces}
-use Rattle.command_words.specs.declared.places.ThreePlaces.TheVariants as three
+use Rattle.command_words.specs.declared.places.Places.{Places}
 use Rattle.command_words.specs.declared.places.TwoPlaces.{TwoPlaces}
-use Rattle.command_words.specs.declared.places.TwoPlaces.TheVariants as two
 
 abbrev pub is_on_input : Place → Bool
 is_on_input one.Input = true
 is_on_input (one.File name) = false
 
 abbrev pub is_one_of_two_on_input : TwoPlaces → Bool
-is_one_of_two_on_input (two.Files puzzle list) = false
-is_one_of_two_on_input places = true
+is_one_of_two_on_input places = is_on_input places.puzzle || is_on_input places.list
 
-abbrev pub is_one_on_input : ThreePlaces → Bool
-is_one_on_input (three.Files files) = false
-is_one_on_input places = true
+abbrev pub is_one_on_input : Places → Bool
+is_one_on_input places =
+    is_on_input places.puzzle || (is_on_input places.list || is_on_input places.certificate)
 
 abbrev pub is_given_on_input : Given → Bool
 is_given_on_input given.Joined = true
@@ -39,22 +36,22 @@ abbrev pub is_subject_on_input : Subject → Bool
 is_subject_on_input (Board puzzle) = is_on_input puzzle
 is_subject_on_input (Listed places number) = is_one_of_two_on_input places
 
--- Whether an order reads standard input: where one of its documents stands there. A check of files, a solve and a list
--- of tiles never do.
+-- Whether an order reads standard input: where one of its documents stands there, or all three joined. A solve and a
+-- list of tiles never do.
 abbrev pub reads_input : Order → Bool
 reads_input Joined = true
-reads_input (Check files workers forks progress hints) = false
+reads_input (Check order) = is_given_on_input order.given
 reads_input (Explain documents) = is_given_on_input documents
 reads_input (ExplainPuzzle puzzle) = is_on_input puzzle
-reads_input (Expand documents orbits hints) = is_given_on_input documents
+reads_input (Expand order) = is_given_on_input order.given
 reads_input (Count documents) = is_given_on_input documents
-reads_input (Census puzzle extent workers progress) = is_on_input puzzle
+reads_input (Census order) = is_on_input order.puzzle
 reads_input (Total places) = are_parts_on_input places
-reads_input (Solve files depth fuel workers symmetries keep progress hints) = false
+reads_input (Solve order) = false
 reads_input (Show subject) = is_subject_on_input subject
-reads_input (Draw subject first numbers) = is_subject_on_input subject
+reads_input (Draw order) = is_subject_on_input order.subject
 reads_input (Symmetries puzzle) = is_on_input puzzle
-reads_input (Tiles sides colours lines) = false
+reads_input (Tiles order) = false
 
 -- What isn't read is later as it was.
 abbrev pub LeavesInput : {I : Type 0} → (reads : Bool) → (given later : I) → Type 0

@@ -1,6 +1,7 @@
 pub mod Exits
 pub mod FileOrigins
 pub mod Files
+pub mod GivenInputs
 pub mod InputUse
 pub mod OrderRuns
 pub mod PartFiles

@@ -19,7 +19,7 @@ use Rattle.command_runs.specs.Census.{CensusFails, CensusGives}
 use Rattle.command_runs.specs.Checking.{CheckFails, CheckGives, SpellCompleteList}
 use Rattle.command_runs.specs.Describing.{Describes, DescribeFails}
 use Rattle.command_orders.specs.Exits.{status_exit}
-use Rattle.command_orders.specs.FileOrigins.{one_file, three_files}
+use Rattle.command_orders.specs.FileOrigins.{one_file}
 use Rattle.command_runs.specs.Listed.{DrawFails, DrawsListed}
 use Rattle.command_runs.specs.Pictures.{DrawsPicture, PictureFails}
 use Rattle.command_runs.specs.Printing.{PrintingFails, PrintingGives}
@@ -29,6 +29,8 @@ use Rattle.command_orders.specs.PartFiles.{given_parts}
 use Rattle.command_orders.specs.PlaceOrigins.{given_documents, one_place, two_places}
 use Rattle.command_orders.specs.SameStreams.{output_of}
 use Rattle.command_orders.specs.SolvedFiles.{PutsAll, solved_files}
+use Rattle.command_orders.specs.declared.place_runs.DocumentsPlan.{DocumentsPlan}
+use Rattle.command_orders.specs.declared.place_runs.DocumentsPlan.TheVariants as plans
 use Rattle.command_orders.specs.declared.place_runs.Drawing.{Drawing}
 use Rattle.command_orders.specs.declared.place_runs.Drawing.TheVariants.{Arrangement, Picture}
 use Rattle.command_orders.specs.declared.streams.Streams.{Streams}
@@ -72,6 +74,11 @@ list_printed false = printings.All
 abbrev pub PrintingOf : Printing → Origin Texts → Writing → Result Exit RunFault → Type 0
 PrintingOf printing from output result =
     Runs from (EndsBy (PrintingGives printing)) (PrintingFails printing) (one_sink output) result
+
+-- What a check of three documents comes to, by what it prints.
+abbrev pub DocumentsOf : DocumentsPlan → Origin Texts → Writing → Result Exit RunFault → Type 0
+DocumentsOf (plans.Answer plan) from output result = CheckOf from output result
+DocumentsOf (plans.Printing plan) from output result = PrintingOf plan.printing from output result
 
 -- What the description of a puzzle comes to.
 abbrev pub DescriptionOf : Description → Origin (List ℕ) → Writing → Result Exit RunFault → Type 0
@@ -121,16 +128,16 @@ module _ {S R W I : Type 0} (system : FileMembers S R W) (source : SourceMembers
     -- What comes of showing the puzzle that stands there: its board, or an arrangement of a list on it.
     abbrev pub ShowOf : Subject → Writing → Result Exit RunFault → Type 0
     ShowOf (Board puzzle) output result =
-        DescriptionOf descriptions.Board (one_place system source input old given later puzzle) output result
+        DescriptionOf descriptions.Board (one_place system source old input given later puzzle) output result
     ShowOf (Listed places number) output result =
-        DrawingOf (Arrangement number) (two_places system source input old given later places) output result
+        DrawingOf (Arrangement number) (two_places system source old input given later places) output result
 
     -- What comes of a picture of the puzzle that stands there: of its empty board and its tiles, or of what is listed.
     abbrev pub PictureOf : Subject → (first : ℕ) → Writing → Result Exit RunFault → Type 0
     PictureOf (Board puzzle) first output result =
-        DescriptionOf descriptions.Picture (one_place system source input old given later puzzle) output result
+        DescriptionOf descriptions.Picture (one_place system source old input given later puzzle) output result
     PictureOf (Listed places number) first output result =
-        Runs (two_places system source input old given later places) (ThenDone (DrawsPicture number first))
+        Runs (two_places system source old input given later places) (ThenDone (DrawsPicture number first))
         (PictureFails number first) (one_sink output) result
 
     -- by files in a later state, and what was written
@@ -138,33 +145,36 @@ module _ {S R W I : Type 0} (system : FileMembers S R W) (source : SourceMembers
       -- What an order comes to. No order does anything to a file but a solve.
       abbrev pub RunOf : Order → Result Exit RunFault → Type 0
       RunOf Joined result = (new ≡ old) × CheckOf (joined_source (reading_of input given later)) output result
-      RunOf (Check files workers forks progress hints) result =
-          (new ≡ old) × CheckOf (three_files system source old files) output result
+      RunOf (Check order) result =
+          (new ≡ old) × CheckOf (given_documents system source old input given later order.given) output result
       RunOf (Explain documents) result =
           (new ≡ old)
-          × PrintingOf printings.Explanation (given_documents system source input old given later documents) output result
+          × PrintingOf printings.Explanation (given_documents system source old input given later documents) output result
       RunOf (ExplainPuzzle puzzle) result =
           (new ≡ old)
-          × DescriptionOf descriptions.NoFault (one_place system source input old given later puzzle) output result
-      RunOf (Expand documents orbits hints) result =
+          × DescriptionOf descriptions.NoFault (one_place system source old input given later puzzle) output result
+      RunOf (Expand order) result =
           (new ≡ old)
-          × PrintingOf (list_printed orbits) (given_documents system source input old given later documents) output result
+          × PrintingOf (list_printed order.orbits)
+          (given_documents system source old input given later order.given) output result
       RunOf (Count documents) result =
           (new ≡ old)
-          × PrintingOf printings.Count (given_documents system source input old given later documents) output result
-      RunOf (Census puzzle extent workers progress) result =
-          (new ≡ old) × CensusOf extent (one_place system source input old given later puzzle) output result
+          × PrintingOf printings.Count (given_documents system source old input given later documents) output result
+      RunOf (Census order) result =
+          (new ≡ old)
+          × CensusOf order.extent (one_place system source old input given later order.puzzle) output result
       RunOf (Total places) result =
           (new ≡ old) × TotalOf (given_parts system source input old given later places) output result
-      RunOf (Solve files depth fuel workers symmetries keep progress hints) result =
-          SolveOf symmetries workers (one_file system source old (string_bytes files.puzzle))
-          (solved_files files system.does system.leads old new output) (PutsAll files system.does old new output) result
+      RunOf (Solve order) result =
+          SolveOf order.symmetries order.workers (one_file system source old (string_bytes order.files.puzzle))
+          (solved_files order.files system.does system.leads old new output)
+          (PutsAll order.files system.does old new output) result
       RunOf (Show subject) result = (new ≡ old) × ShowOf subject output result
-      RunOf (Draw subject first numbers) result = (new ≡ old) × PictureOf subject first output result
+      RunOf (Draw order) result = (new ≡ old) × PictureOf order.subject order.first output result
       RunOf (Symmetries puzzle) result =
           (new ≡ old)
-          × DescriptionOf descriptions.Symmetries (one_place system source input old given later puzzle) output result
-      RunOf (Tiles sides colours lines) result = (new ≡ old) × TilesOf sides colours lines output result
+          × DescriptionOf descriptions.Symmetries (one_place system source old input given later puzzle) output result
+      RunOf (Tiles order) result = (new ≡ old) × TilesOf order.sides order.colours order.lines output result
 
 -- What an order comes to, over files and streams in a state, and in a later one. What reads nothing of standard input
 -- leaves it as it was.

@@ -30,8 +30,8 @@ module _ {S R W : Type 0} (system : FileMembers S R W) (source : SourceMembers R
   AreTextsOf (name ∷ names) (text ∷ texts) = IsTextOf name text × AreTextsOf names texts
   AreTextsOf names texts = ⊥
 
-  -- What a fault says of the file of this name, of which at most so many bytes are read: it can't be opened, or answered an
-  -- error; or it gave more bytes. Want of memory says that it was opened, and did neither.
+  -- What a fault says of the file of this name, of which at most `bound` bytes are read: it can't be opened, or
+  -- answered an error; or it gave more bytes. Want of memory says that it was opened, and did neither.
   abbrev pub StopsAtFile : (bound : ℕ) (name : List ℕ) → InputFault → Type 0
   StopsAtFile bound name (inputs.Read of) =
       (of ≡ documents.Parts)

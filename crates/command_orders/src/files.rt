@@ -10,7 +10,7 @@ use std::alloc::{AllocError, Global};
 
 // The hint for a user who names standard input where `-` doesn't stand for it.
 const NO_INPUT: &str =
-    "-: there is no such file, and here it doesn't stand for standard input; edgematch check reads a puzzle, a list and a certificate from there, joined, where no file is named";
+    "-: there is no such file, and here it doesn't stand for standard input: a solve reads its puzzle from a file";
 
 /// Opens the file of a document; nothing of it is read yet. `Read` of the document comes where it can't be opened, and
 /// the hint says why.

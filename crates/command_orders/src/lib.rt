@@ -2,9 +2,10 @@
 //! says while it runs.
 #![tactic(auto)]
 
-mod document_readers;
 mod exits;
 mod files;
+mod given_inputs;
+mod laws;
 mod made_files;
 mod order_runs;
 mod part_files;
@@ -17,10 +18,9 @@ mod word_runs;
 pub use command_runs::{HintedFault, RunFault};
 pub use exits::Exit;
 pub use files::{have_different_names, open};
-pub use made_files::nothing_is_lost;
+pub use laws::nothing_is_lost;
 pub use order_runs::run_order;
 pub use progress::{CheckProgress, SolveProgress};
 pub use streams::Streams;
-pub use system_files::{Input, Output, System};
 pub use system_limits::SystemLimits;
 pub use word_runs::{run_words, stopped};

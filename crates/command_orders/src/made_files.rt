@@ -2,7 +2,6 @@
 
 ghost use Rattle.std.specs.Prelude.{◌≡◌, ◌⊎◌, IfOk, IfErr, OnErr};
 ghost use Rattle.byte_streams.specs.MadeFiles.{MakesBoth, Undid};
-ghost use Rattle.command_orders.specs.SolvedFiles.{NothingIsLost};
 
 use crate::files::hint_on;
 use byte_streams::{FileFault, FileSystem, MadeFiles, NotMade, NotPut, ProductNames, make_both};
@@ -61,10 +60,3 @@ pub(crate) fn replaced(alloc: Global, name: &str) -> HintedFault
         ).ok(),
     }
 }
-
-/// A law; the call does nothing. After a solve that is done, the list and the certificate are under their names, and
-/// the puzzle's file is as it was. After a solve that was stopped before everything was written, the files under all
-/// names are as they were.
-pub fn nothing_is_lost()
-    ensures { NothingIsLost }
-{}

@@ -3,38 +3,40 @@
 ghost use Rattle.std.specs.Prelude.{◌≡◌, false, map, true};
 ghost use Rattle.std.specs.String.{string_bytes};
 ghost use Rattle.byte_streams.specs.Moves.{reading_of, writing_of};
-ghost use Rattle.byte_streams.specs.Origins.{joined_source, one_source};
+ghost use Rattle.byte_streams.specs.Origins.{one_source};
 ghost use Rattle.byte_streams.specs.declared.faults.Document.TheVariants as documents;
-ghost use Rattle.command_orders.specs.FileOrigins.{one_file, three_files};
+ghost use Rattle.command_orders.specs.FileOrigins.{one_file};
 ghost use Rattle.command_orders.specs.InputUse.{LeavesInput, are_parts_on_input, is_subject_on_input};
-ghost use Rattle.command_orders.specs.OrderRuns.{CheckOf, PictureOf, RunOver, ShowOf, SolveOf, TilesOf, TotalOf};
+ghost use Rattle.command_orders.specs.OrderRuns.{PictureOf, RunOver, ShowOf, SolveOf, TilesOf, TotalOf};
 ghost use Rattle.command_orders.specs.OrderRuns.{list_printed};
 ghost use Rattle.command_orders.specs.PartFiles.{given_parts, part_files};
 ghost use Rattle.command_runs.specs.Runs.{unhinted};
 ghost use Rattle.command_orders.specs.SameStreams.{AreSameStreams};
 ghost use Rattle.command_orders.specs.SolvedFiles.{PutsAll, solved_files};
 
-use crate::document_readers::open_all;
 use crate::exits::Exit;
 use crate::files::{are_apart, hint_on, open};
 use crate::made_files::{make_files, not_put, replaced};
 use crate::part_files::PartFiles;
 use crate::place_runs::{
-    CensusOrder, DescriptionOrder, Drawing, DrawingOrder, PrintingOrder, describe, draw,
+    AnswerPlan, DescriptionOrder, DocumentsOrder, DocumentsPlan, Drawing, DrawingOrder, count,
+    describe, draw,
 };
-use crate::progress::{CheckProgress, SolveProgress};
+use crate::progress::SolveProgress;
 use crate::streams::Streams;
 use byte_streams::{
-    Document, FileSystem, JoinedSource, MadeFiles, OneSink, OneSource, ProductNames, Sink, Source,
-    ThreeSinks, Unsettled, settle,
+    Document, FileSystem, MadeFiles, OneSource, ProductNames, Sink, Source, ThreeSinks, Unsettled,
+    settle,
 };
 use command_runs::{
     CheckPlan, Description, HintedFault, PicturePlan, Printing, PrintingPlan, RunFault, SearchPlan,
-    Watched, run_check_watched, run_solve_watched, run_tile_lines, run_tiles, run_total,
+    Watched, run_solve_watched, run_tile_lines, run_tiles, run_total,
 };
-use command_words::{Files, Order, PartPlaces, Subject};
-use match_limits::{Colours, Drawn, Forks, Sides, Workers};
-use match_report::Status;
+use command_words::{
+    CheckOrder, DrawOrder, ExpandOrder, Files, Given, Order, PartPlaces, SolveOrder, Subject,
+    TilesOrder,
+};
+use match_limits::{Colours, Forks, Sides, Workers};
 use std::alloc::Global;
 use std::random::RandomSource;
 use std::sync::Wait;
@@ -71,238 +73,103 @@ pub fn run_order<
     ensures run { RunOver S.FileSystem S.Reader.Source I.Source W.Sink system.old streams.old system.new streams.new
         order.now (unhinted result) }
 {
+    let is_watched = streams.terminal;
     match order {
         Order::Joined => {
-            let is_watched = streams.terminal;
-            check_joined(rt, alloc, is_watched, streams.input, streams.output)
+            let check = DocumentsOrder::new(rt, alloc, DocumentsPlan::Answer(plain(is_watched)));
+            check.run(&Given::Joined, system, streams.input, streams.output)
         }
-        Order::Check {
-            files,
-            workers,
-            forks,
-            progress,
-            hints,
-        } => {
-            let plan = CheckPlan {
-                workers: *workers,
-                forks: *forks,
-            };
-            let order = CheckOrder {
-                files,
-                plan,
-                progress: *progress,
-                hints: are_told(*hints, streams.terminal),
-                is_watched: streams.terminal,
-            };
-            check(rt, alloc, &order, system, streams.output)
+        Order::Check(order) => {
+            let plan = DocumentsPlan::Answer(answer_plan(order, is_watched));
+            let check = DocumentsOrder::new(rt, alloc, plan);
+            check.run(&order.given, system, streams.input, streams.output)
         }
-        Order::Solve {
-            files,
-            depth,
-            fuel,
-            workers,
-            symmetries,
-            keep: _,
-            progress,
-            hints,
-        } => {
-            let plan = SearchPlan {
-                depth: *depth,
-                fuel: *fuel,
-                workers: *workers,
-                symmetries: *symmetries,
-            };
-            let order = SolveOrder {
-                files,
-                plan,
-                progress: *progress,
-                hints: are_told(*hints, streams.terminal),
-            };
-            solve(rt, alloc, &order, system, streams.output)
-        }
+        Order::Solve(order) => solve(rt, alloc, order, is_watched, system, streams.output),
         Order::Explain(given) => {
-            let order = PrintingOrder {
-                rt,
-                alloc,
-                plan: PrintingPlan {
-                    printing: Printing::Explanation,
-                    hints: true,
-                },
-            };
-            order.print(given, system, streams.input, streams.output)
+            let order = DocumentsOrder::new(rt, alloc, DocumentsPlan::Printing(EXPLANATION));
+            order.run(given, system, streams.input, streams.output)
         }
         Order::ExplainPuzzle(puzzle) => {
-            let order = DescriptionOrder {
-                puzzle,
-                description: Description::NoFault,
-            };
+            let order = DescriptionOrder::new(puzzle, Description::NoFault);
             describe(alloc, &order, system, streams.input, streams.output)
         }
-        Order::Expand {
-            given,
-            orbits,
-            hints,
-        } => {
-            let order = PrintingOrder {
-                rt,
-                alloc,
-                plan: PrintingPlan {
-                    printing: listing_of(*orbits),
-                    hints: are_told(*hints, streams.terminal),
-                },
-            };
-            order.print(given, system, streams.input, streams.output)
+        Order::Expand(order) => {
+            let plan = DocumentsPlan::Printing(expansion_plan(order, is_watched));
+            let expansion = DocumentsOrder::new(rt, alloc, plan);
+            expansion.run(&order.given, system, streams.input, streams.output)
         }
         Order::Count(given) => {
-            let order = PrintingOrder {
-                rt,
-                alloc,
-                plan: PrintingPlan {
-                    printing: Printing::Count,
-                    hints: true,
-                },
-            };
-            order.print(given, system, streams.input, streams.output)
+            let order = DocumentsOrder::new(rt, alloc, DocumentsPlan::Printing(COUNT));
+            order.run(given, system, streams.input, streams.output)
         }
-        Order::Census {
-            puzzle,
-            extent,
-            workers,
-            progress,
-        } => {
-            let order = CensusOrder {
-                rt,
-                alloc,
-                extent: *extent,
-                workers: *workers,
-                progress: *progress,
-            };
-            order.count(puzzle, system, streams.input, streams.output)
-        }
+        Order::Census(order) => count(rt, alloc, order, system, streams.input, streams.output),
         Order::Total(parts) => add_up(alloc, parts, system, streams.input, streams.output),
         Order::Show(subject) => show(alloc, subject, system, streams.input, streams.output),
-        Order::Draw {
-            subject,
-            first,
-            numbers,
-        } => {
-            let order = PictureOrder {
-                subject,
-                first: *first,
-                numbers: *numbers,
-            };
-            picture(alloc, &order, system, streams.input, streams.output)
-        }
+        Order::Draw(order) => picture(alloc, order, system, streams.input, streams.output),
         Order::Symmetries(puzzle) => {
-            let order = DescriptionOrder {
-                puzzle,
-                description: Description::Symmetries,
-            };
+            let order = DescriptionOrder::new(puzzle, Description::Symmetries);
             describe(alloc, &order, system, streams.input, streams.output)
         }
-        Order::Tiles {
-            sides,
-            colours,
-            lines,
-        } => list_tiles(alloc, *sides, *colours, *lines, streams.output),
+        Order::Tiles(order) => list_tiles(alloc, order, streams.output),
     }
 }
+
+// What `explain` prints of three documents.
+const EXPLANATION: PrintingPlan = PrintingPlan {
+    printing: Printing::Explanation,
+    hints: true,
+};
+
+// What `count` prints of three documents.
+const COUNT: PrintingPlan = PrintingPlan {
+    printing: Printing::Count,
+    hints: true,
+};
 
 // Whether hints are given: where they are asked for, or somebody reads them on a terminal.
 fn are_told(hints: bool, terminal: bool) -> bool {
     hints || terminal
 }
 
-// Checks joined documents. Where somebody watches on a terminal, says there what has to be changed, and what the listed
-// arrangements stand for.
-fn check_joined<I: Source, W: Sink, R: Threads + Sync + Clock + Eprint>(
-    rt: &R,
-    alloc: Global,
-    is_watched: bool,
-    input: &mut I,
-    output: &mut W,
-) -> Result<Exit, HintedFault>
-    ensures { CheckOf (joined_source (reading_of I.Source input.old input.new))
-        (writing_of W.Sink output.old output.new) (unhinted result) }
-{
-    let plan = CheckPlan {
-        workers: Workers::new(1),
-        forks: Forks::new(0),
-    };
-    let progress = CheckProgress::new(rt, false);
-    let check = Watched {
-        plan,
-        watch: &progress,
+// A check without options. Where somebody watches on a terminal, it says there what has to be changed, and what the
+// listed arrangements stand for.
+fn plain(is_watched: bool) -> AnswerPlan {
+    AnswerPlan {
+        check: CheckPlan {
+            workers: Workers::new(1),
+            forks: Forks::new(0),
+        },
+        progress: false,
         hints: is_watched,
-    };
-    let status = run_check_watched(
-        rt,
-        alloc,
-        &check,
-        &mut JoinedSource { input },
-        &mut OneSink { sink: output },
-    )?;
-    tell_scope(&progress, is_watched, status);
-    Ok(Exit::of_status(status))
-}
-
-// Where a list is complete and somebody watches on a terminal, says what the listed arrangements stand for.
-fn tell_scope<R: Clock + Eprint>(
-    progress: &CheckProgress<'_, R>,
-    is_watched: bool,
-    status: Status,
-) {
-    if let (true, Status::Complete) = (is_watched, status) {
-        progress.tell_scope();
+        scope: is_watched,
     }
 }
 
-// A check that is ordered.
-#[derive(Clone, Copy)]
-struct CheckOrder<'a> {
-    files: &'a Files,
-    plan: CheckPlan,
-    progress: bool,
-    hints: bool,
-    // on a terminal
-    is_watched: bool,
+// How an ordered check goes. Where somebody watches on a terminal, it says there what has to be changed, and what the
+// listed arrangements stand for.
+fn answer_plan(order: &CheckOrder, is_watched: bool) -> AnswerPlan {
+    AnswerPlan {
+        check: CheckPlan {
+            workers: order.workers,
+            forks: order.forks,
+        },
+        progress: order.progress,
+        hints: are_told(order.hints, is_watched),
+        scope: is_watched,
+    }
 }
 
-fn check<S: FileSystem, W: Sink, R: Threads + Sync + Clock + Eprint>(
-    rt: &R,
-    alloc: Global,
-    order: &CheckOrder<'_>,
-    system: &S,
-    output: &mut W,
-) -> Result<Exit, HintedFault>
-    ensures { CheckOf (three_files S.FileSystem S.Reader.Source system.now order.now.files.now)
-        (writing_of W.Sink output.old output.new) (unhinted result) }
+// How the search of a solve goes.
+fn search_plan(order: &SolveOrder) -> SearchPlan
+    ensures symmetries { result.symmetries ≡ order.now.symmetries }
+    ensures workers { result.workers ≡ order.now.workers }
 {
-    let mut opened = open_all(alloc, system, order.files)?;
-    let progress = CheckProgress::new(rt, order.progress);
-    let check = Watched {
-        plan: order.plan,
-        watch: &progress,
-        hints: order.hints,
-    };
-    let status = run_check_watched(
-        rt,
-        alloc,
-        &check,
-        &mut opened.sources(),
-        &mut OneSink { sink: output },
-    )?;
-    tell_scope(&progress, order.is_watched, status);
-    Ok(Exit::of_status(status))
-}
-
-// A solve that is ordered.
-#[derive(Clone, Copy)]
-struct SolveOrder<'a> {
-    files: &'a Files,
-    plan: SearchPlan,
-    progress: bool,
-    hints: bool,
+    SearchPlan {
+        depth: order.depth,
+        fuel: order.fuel,
+        workers: order.workers,
+        symmetries: order.symmetries,
+    }
 }
 
 // Opens the puzzle's file, and makes the others beside their names, before anything is read. Puts them there when
@@ -310,16 +177,18 @@ struct SolveOrder<'a> {
 fn solve<S: FileSystem, W: Sink, R: Threads + Wait + Sync + Clock + Eprint>(
     rt: &R,
     alloc: Global,
-    order: &SolveOrder<'_>,
+    order: &SolveOrder,
+    is_watched: bool,
     system: &mut S,
     output: &mut W,
 ) -> Result<Exit, HintedFault>
-    ensures { SolveOf order.now.plan.symmetries order.now.plan.workers
-        (one_file S.FileSystem S.Reader.Source system.old (string_bytes order.now.files.now.puzzle))
-        (solved_files order.now.files.now S.does S.leads system.old system.new (writing_of W.Sink output.old output.new))
-        (PutsAll order.now.files.now S.does system.old system.new (writing_of W.Sink output.old output.new)) (unhinted result) }
+    ensures { SolveOf order.now.symmetries order.now.workers
+        (one_file S.FileSystem S.Reader.Source system.old (string_bytes order.now.files.puzzle))
+        (solved_files order.now.files S.does S.leads system.old system.new (writing_of W.Sink output.old output.new))
+        (PutsAll order.now.files S.does system.old system.new (writing_of W.Sink output.old output.new))
+        (unhinted result) }
 {
-    let files = order.files;
+    let files = &order.files;
     let mut puzzle = open(alloc, system, &files.puzzle, Document::Puzzle)?;
     if !are_apart(alloc, files, system)? {
         return Err(not_apart(alloc, files, system));
@@ -331,9 +200,9 @@ fn solve<S: FileSystem, W: Sink, R: Threads + Wait + Sync + Clock + Eprint>(
     let mut made = make_files(alloc, &names, system)?;
     let progress = SolveProgress::new(rt, order.progress);
     let search = Watched {
-        plan: order.plan,
+        plan: search_plan(order),
         watch: &progress,
-        hints: order.hints,
+        hints: are_told(order.hints, is_watched),
     };
     let solved = run_solve_watched(
         rt,
@@ -386,6 +255,16 @@ fn hint_on_writing<F: Sink>(alloc: Global, files: &Files, made: &MadeFiles<F>) -
     }
     let refusal = made.certificate.refusal()?;
     hint_on(alloc, &files.certificate, refusal)
+}
+
+// What an expansion prints.
+fn expansion_plan(order: &ExpandOrder, is_watched: bool) -> PrintingPlan
+    ensures { result.printing ≡ list_printed order.now.orbits }
+{
+    PrintingPlan {
+        printing: listing_of(order.orbits),
+        hints: are_told(order.hints, is_watched),
+    }
 }
 
 // The list of one arrangement of each orbit, or of all arrangements.
@@ -466,10 +345,7 @@ fn show<S: FileSystem, I: Source, W: Sink>(
 {
     match subject {
         Subject::Board(puzzle) => {
-            let order = DescriptionOrder {
-                puzzle,
-                description: Description::Board,
-            };
+            let order = DescriptionOrder::new(puzzle, Description::Board);
             describe(alloc, &order, system, input, output)
         }
         Subject::Listed { places, number } => {
@@ -482,32 +358,21 @@ fn show<S: FileSystem, I: Source, W: Sink>(
     }
 }
 
-// A picture that is ordered.
-#[derive(Clone, Copy)]
-struct PictureOrder<'a> {
-    subject: &'a Subject,
-    first: Drawn,
-    numbers: bool,
-}
-
 // Draws a picture of the puzzle's empty board and its tiles, or of listed arrangements.
 fn picture<S: FileSystem, I: Source, W: Sink>(
     alloc: Global,
-    order: &PictureOrder<'_>,
+    order: &DrawOrder,
     system: &S,
     input: &mut I,
     output: &mut W,
 ) -> Result<Exit, HintedFault>
-    ensures run { PictureOf S.FileSystem S.Reader.Source I.Source system.now input.old input.new order.now.subject.now
+    ensures run { PictureOf S.FileSystem S.Reader.Source I.Source system.now input.old input.new order.now.subject
         order.now.first (writing_of W.Sink output.old output.new) (unhinted result) }
-    ensures unread { LeavesInput (is_subject_on_input order.now.subject.now) input.old input.new }
+    ensures unread { LeavesInput (is_subject_on_input order.now.subject) input.old input.new }
 {
-    match order.subject {
+    match &order.subject {
         Subject::Board(puzzle) => {
-            let order = DescriptionOrder {
-                puzzle,
-                description: Description::Picture,
-            };
+            let order = DescriptionOrder::new(puzzle, Description::Picture);
             describe(alloc, &order, system, input, output)
         }
         Subject::Listed { places, number } => {
@@ -527,17 +392,16 @@ fn picture<S: FileSystem, I: Source, W: Sink>(
 
 fn list_tiles<W: Sink>(
     alloc: Global,
-    sides: Sides,
-    colours: Colours,
-    lines: bool,
+    order: &TilesOrder,
     output: &mut W,
 ) -> Result<Exit, HintedFault>
-    ensures { TilesOf sides colours lines (writing_of W.Sink output.old output.new) (unhinted result) }
+    ensures { TilesOf order.now.sides order.now.colours order.now.lines (writing_of W.Sink output.old output.new)
+        (unhinted result) }
 {
-    if lines {
-        list_tile_lines(alloc, sides, colours, output)
+    if order.lines {
+        list_tile_lines(alloc, order.sides, order.colours, output)
     } else {
-        list_tile_words(alloc, sides, colours, output)
+        list_tile_words(alloc, order.sides, order.colours, output)
     }
 }
 

@@ -1,25 +1,27 @@
 //! Runs over documents, one of which may be on standard input. Where all are files, nothing is taken from there.
 
+ghost use Rattle.std.specs.Prelude.{◌≡◌};
 ghost use Rattle.byte_streams.specs.Moves.{reading_of, writing_of};
-ghost use Rattle.byte_streams.specs.Origins.{joined_source, one_source, three_sources, two_sources};
+ghost use Rattle.byte_streams.specs.Origins.{one_source, two_sources};
 ghost use Rattle.byte_streams.specs.declared.faults.Document.TheVariants as documents;
-ghost use Rattle.command_orders.specs.InputUse.{LeavesInput, is_given_on_input, is_on_input, is_one_on_input};
+ghost use Rattle.command_orders.specs.InputUse.{LeavesInput, is_given_on_input, is_on_input};
 ghost use Rattle.command_orders.specs.InputUse.{is_one_of_two_on_input};
-ghost use Rattle.command_orders.specs.OrderRuns.{CensusOf, DescriptionOf, DrawingOf, PrintingOf};
-ghost use Rattle.command_orders.specs.PlaceOrigins.{given_documents, one_place, three_places, two_places};
+ghost use Rattle.command_orders.specs.OrderRuns.{CensusOf, CheckOf, DescriptionOf, DocumentsOf, DrawingOf, PrintingOf};
+ghost use Rattle.command_orders.specs.PlaceOrigins.{given_documents, one_place, two_places};
 ghost use Rattle.command_runs.specs.Runs.{unhinted};
 
-use crate::document_readers::{ThreeReaders, open_all};
 use crate::exits::Exit;
 use crate::files::open;
-use crate::progress::CensusProgress;
-use byte_streams::{Document, FileSystem, JoinedSource, OneSink, Sink, Source, ThreeSources};
+use crate::given_inputs::{GivenInputs, open_given};
+use crate::progress::{CensusProgress, CheckProgress};
+use byte_streams::{Document, FileSystem, Inputs, OneSink, OwnedDocuments, Sink, Source};
 use command_runs::{
-    CensusPlan, Description, HintedFault, PicturePlan, PrintingPlan, run_census, run_description,
-    run_listed, run_picture, run_printing,
+    CensusPlan, CheckPlan, Description, HintedFault, PicturePlan, PrintingPlan, Watched,
+    run_census, run_check_watched, run_description, run_listed, run_picture, run_printing,
 };
-use command_words::{Extent, Given, Place, ThreePlaces, TwoPlaces};
-use match_limits::{ArrangementNumber, Workers};
+use command_words::{CensusOrder, Given, Place, TwoPlaces};
+use match_limits::ArrangementNumber;
+use match_report::Status;
 use std::alloc::Global;
 use std::random::RandomSource;
 use std::thread::Threads;
@@ -34,6 +36,18 @@ pub(crate) struct DescriptionOrder<'a> {
     pub(crate) description: Description,
 }
 
+impl<'a> DescriptionOrder<'a> {
+    pub(crate) fn new(puzzle: &'a Place, description: Description) -> DescriptionOrder<'a>
+        ensures puzzle { result.puzzle.now ≡ puzzle.now }
+        ensures description { result.description ≡ description }
+    {
+        DescriptionOrder {
+            puzzle,
+            description,
+        }
+    }
+}
+
 pub(crate) fn describe<S: FileSystem, I: Source, W: Sink>(
     alloc: Global,
     order: &DescriptionOrder<'_>,
@@ -42,7 +56,7 @@ pub(crate) fn describe<S: FileSystem, I: Source, W: Sink>(
     output: &mut W,
 ) -> Result<Exit, HintedFault>
     ensures run { DescriptionOf order.now.description
-        (one_place S.FileSystem S.Reader.Source I.Source system.now input.old input.new order.now.puzzle.now)
+        (one_place S.FileSystem S.Reader.Source system.now I.Source input.old input.new order.now.puzzle.now)
         (writing_of W.Sink output.old output.new) (unhinted result) }
     ensures unread { LeavesInput (is_on_input order.now.puzzle.now) input.old input.new }
 {
@@ -69,56 +83,47 @@ fn describe_from<P: Source, W: Sink>(
     Ok(Exit::Done)
 }
 
-// An order to count by a search.
-#[derive(Clone, Copy)]
-pub(crate) struct CensusOrder<'a, R> {
-    pub(crate) rt: &'a R,
-    pub(crate) alloc: Global,
-    pub(crate) extent: Extent,
-    pub(crate) workers: Workers,
-    pub(crate) progress: bool,
+// Counts arrangements of the puzzle by a search.
+pub(crate) fn count<S: FileSystem, I: Source, W: Sink, R: Threads + Sync + Clock + Eprint>(
+    rt: &R,
+    alloc: Global,
+    order: &CensusOrder,
+    system: &S,
+    input: &mut I,
+    output: &mut W,
+) -> Result<Exit, HintedFault>
+    ensures run { CensusOf order.now.extent
+        (one_place S.FileSystem S.Reader.Source system.now I.Source input.old input.new order.now.puzzle)
+        (writing_of W.Sink output.old output.new) (unhinted result) }
+    ensures unread { LeavesInput (is_on_input order.now.puzzle) input.old input.new }
+{
+    match &order.puzzle {
+        Place::File(file) => {
+            let mut puzzle = open(alloc, system, file, Document::Puzzle)?;
+            count_from(rt, alloc, order, &mut puzzle, output)
+        }
+        Place::Input => count_from(rt, alloc, order, input, output),
+    }
 }
 
-impl<'a, R: Threads + Sync + Clock + Eprint> CensusOrder<'a, R> {
-    // Counts arrangements of the puzzle.
-    pub(crate) fn count<S: FileSystem, I: Source, W: Sink>(
-        &self,
-        puzzle: &Place,
-        system: &S,
-        input: &mut I,
-        output: &mut W,
-    ) -> Result<Exit, HintedFault>
-        ensures run { CensusOf self.now.extent
-            (one_place S.FileSystem S.Reader.Source I.Source system.now input.old input.new puzzle.now)
-            (writing_of W.Sink output.old output.new) (unhinted result) }
-        ensures unread { LeavesInput (is_on_input puzzle.now) input.old input.new }
-    {
-        match puzzle {
-            Place::File(name) => {
-                let mut puzzle = open(self.alloc, system, name, Document::Puzzle)?;
-                self.count_from(&mut puzzle, output)
-            }
-            Place::Input => self.count_from(input, output),
-        }
-    }
-
-    // Counts arrangements of the puzzle that this source has.
-    fn count_from<P: Source, W: Sink>(
-        &self,
-        puzzle: &mut P,
-        output: &mut W,
-    ) -> Result<Exit, HintedFault>
-        ensures { CensusOf self.now.extent (one_source documents.Puzzle (reading_of P.Source puzzle.old puzzle.new))
-            (writing_of W.Sink output.old output.new) (unhinted result) }
-    {
-        let plan = CensusPlan {
-            extent: self.extent,
-            workers: self.workers,
-            watch: &CensusProgress::new(self.rt, self.progress),
-        };
-        run_census(self.rt, self.alloc, puzzle, &plan, output)?;
-        Ok(Exit::Done)
-    }
+// Counts arrangements of the puzzle that this source has.
+fn count_from<P: Source, W: Sink, R: Threads + Sync + Clock + Eprint>(
+    rt: &R,
+    alloc: Global,
+    order: &CensusOrder,
+    puzzle: &mut P,
+    output: &mut W,
+) -> Result<Exit, HintedFault>
+    ensures { CensusOf order.now.extent (one_source documents.Puzzle (reading_of P.Source puzzle.old puzzle.new))
+        (writing_of W.Sink output.old output.new) (unhinted result) }
+{
+    let plan = CensusPlan {
+        extent: order.extent,
+        workers: order.workers,
+        watch: &CensusProgress::new(rt, order.progress),
+    };
+    run_census(rt, alloc, puzzle, &plan, output)?;
+    Ok(Exit::Done)
 }
 
 // ---- of a puzzle and a list
@@ -148,24 +153,25 @@ pub(crate) fn draw<S: FileSystem, I: Source, W: Sink>(
     output: &mut W,
 ) -> Result<Exit, HintedFault>
     ensures run { DrawingOf order.now.drawing
-        (two_places S.FileSystem S.Reader.Source I.Source system.now input.old input.new order.now.places.now)
+        (two_places S.FileSystem S.Reader.Source system.now I.Source input.old input.new order.now.places.now)
         (writing_of W.Sink output.old output.new) (unhinted result) }
     ensures unread { LeavesInput (is_one_of_two_on_input order.now.places.now) input.old input.new }
 {
-    match order.places {
-        TwoPlaces::Files { puzzle, list } => {
+    match (&order.places.puzzle, &order.places.list) {
+        (Place::File(puzzle), Place::File(list)) => {
             let mut puzzle = open(alloc, system, puzzle, Document::Puzzle)?;
             let mut list = open(alloc, system, list, Document::List)?;
             draw_from(alloc, order.drawing, &mut puzzle, &mut list, output)
         }
-        TwoPlaces::PuzzleOnInput { list } => {
+        (Place::Input, Place::File(list)) => {
             let mut list = open(alloc, system, list, Document::List)?;
             draw_from(alloc, order.drawing, input, &mut list, output)
         }
-        TwoPlaces::ListOnInput { puzzle } => {
+        (Place::File(puzzle), Place::Input) => {
             let mut puzzle = open(alloc, system, puzzle, Document::Puzzle)?;
             draw_from(alloc, order.drawing, &mut puzzle, input, output)
         }
+        (Place::Input, Place::Input) => unreachable!(),
     }
 }
 
@@ -195,119 +201,125 @@ fn draw_from<P: Source, L: Source, W: Sink>(
 
 // ---- of three documents
 
-// A check that prints all arrangements, one of each orbit, how many there are, or why the list is refused.
+// A check that prints its answer.
 #[derive(Clone, Copy)]
-pub(crate) struct PrintingOrder<'a, R> {
-    pub(crate) rt: &'a R,
-    pub(crate) alloc: Global,
-    pub(crate) plan: PrintingPlan,
+pub(crate) struct AnswerPlan {
+    pub(crate) check: CheckPlan,
+    // Whether it says meanwhile how far it is.
+    pub(crate) progress: bool,
+    pub(crate) hints: bool,
+    // Whether it says, where the list is complete, what the listed arrangements stand for.
+    pub(crate) scope: bool,
 }
 
-impl<'a, R: RandomSource> PrintingOrder<'a, R> {
-    // Prints it for documents that are joined on standard input, or apart.
-    pub(crate) fn print<S: FileSystem, I: Source, W: Sink>(
+// What a check prints.
+#[derive(Clone, Copy)]
+pub(crate) enum DocumentsPlan {
+    // Its answer.
+    Answer(AnswerPlan),
+    // All arrangements, one of each orbit, how many there are, or why the list is refused.
+    Printing(PrintingPlan),
+}
+
+// A check of three documents.
+#[derive(Clone, Copy)]
+pub(crate) struct DocumentsOrder<'a, R> {
+    pub(crate) rt: &'a R,
+    pub(crate) alloc: Global,
+    pub(crate) plan: DocumentsPlan,
+}
+
+impl<'a, R: Threads + Sync + RandomSource + Clock + Eprint> DocumentsOrder<'a, R> {
+    pub(crate) fn new(rt: &'a R, alloc: Global, plan: DocumentsPlan) -> DocumentsOrder<'a, R>
+        ensures { result.plan ≡ plan }
+    {
+        DocumentsOrder { rt, alloc, plan }
+    }
+
+    // Checks the documents that are given in this way. Opens all files before anything is read.
+    pub(crate) fn run<S: FileSystem, I: Source, W: Sink>(
         &self,
         given: &Given,
         system: &S,
         input: &mut I,
         output: &mut W,
     ) -> Result<Exit, HintedFault>
-        ensures run { PrintingOf self.now.plan.printing
-            (given_documents S.FileSystem S.Reader.Source I.Source system.now input.old input.new given.now)
+        ensures run { DocumentsOf self.now.plan
+            (given_documents S.FileSystem S.Reader.Source system.now I.Source input.old input.new given.now)
             (writing_of W.Sink output.old output.new) (unhinted result) }
         ensures unread { LeavesInput (is_given_on_input given.now) input.old input.new }
     {
-        match given {
-            Given::Joined => self.print_joined(input, output),
-            Given::Apart(places) => self.print_apart(places, system, input, output),
-        }
-    }
-
-    fn print_joined<I: Source, W: Sink>(
-        &self,
-        input: &mut I,
-        output: &mut W,
-    ) -> Result<Exit, HintedFault>
-        ensures { PrintingOf self.now.plan.printing (joined_source (reading_of I.Source input.old input.new))
-            (writing_of W.Sink output.old output.new) (unhinted result) }
-    {
-        let status = run_printing(
-            self.rt,
-            self.alloc,
-            self.plan,
-            &mut JoinedSource { input },
-            &mut OneSink { sink: output },
-        )?;
-        Ok(Exit::of_status(status))
-    }
-
-    // Prints it for documents that are apart. Opens all files before anything is read.
-    fn print_apart<S: FileSystem, I: Source, W: Sink>(
-        &self,
-        places: &ThreePlaces,
-        system: &S,
-        input: &mut I,
-        output: &mut W,
-    ) -> Result<Exit, HintedFault>
-        ensures run { PrintingOf self.now.plan.printing
-            (three_places S.FileSystem S.Reader.Source I.Source system.now input.old input.new places.now)
-            (writing_of W.Sink output.old output.new) (unhinted result) }
-        ensures unread { LeavesInput (is_one_on_input places.now) input.old input.new }
-    {
-        match places {
-            ThreePlaces::Files(files) => {
-                let ThreeReaders {
-                    mut puzzle,
-                    mut list,
-                    mut certificate,
-                } = open_all(self.alloc, system, files)?;
-                self.print_from(&mut puzzle, &mut list, &mut certificate, output)
-            }
-            ThreePlaces::PuzzleOnInput { list, certificate } => {
-                let mut list = open(self.alloc, system, list, Document::List)?;
-                let mut certificate = open(self.alloc, system, certificate, Document::Certificate)?;
-                self.print_from(input, &mut list, &mut certificate, output)
-            }
-            ThreePlaces::ListOnInput {
-                puzzle,
-                certificate,
-            } => {
-                let mut puzzle = open(self.alloc, system, puzzle, Document::Puzzle)?;
-                let mut certificate = open(self.alloc, system, certificate, Document::Certificate)?;
-                self.print_from(&mut puzzle, input, &mut certificate, output)
-            }
-            ThreePlaces::CertificateOnInput { puzzle, list } => {
-                let mut puzzle = open(self.alloc, system, puzzle, Document::Puzzle)?;
-                let mut list = open(self.alloc, system, list, Document::List)?;
-                self.print_from(&mut puzzle, &mut list, input, output)
-            }
-        }
-    }
-
-    // Prints it for the three documents that these sources have.
-    fn print_from<P: Source, L: Source, C: Source, W: Sink>(
-        &self,
-        puzzle: &mut P,
-        list: &mut L,
-        certificate: &mut C,
-        output: &mut W,
-    ) -> Result<Exit, HintedFault>
-        ensures { PrintingOf self.now.plan.printing (three_sources (reading_of P.Source puzzle.old puzzle.new)
-            (reading_of L.Source list.old list.new) (reading_of C.Source certificate.old certificate.new))
-            (writing_of W.Sink output.old output.new) (unhinted result) }
-    {
-        let mut inputs = ThreeSources {
-            puzzle,
-            list,
-            certificate,
+        let mut readers = open_given(self.alloc, system, given)?;
+        let mut inputs = GivenInputs {
+            input,
+            readers: &mut readers,
         };
-        let status = run_printing(
-            self.rt,
-            self.alloc,
-            self.plan,
-            &mut inputs,
-            &mut OneSink { sink: output },
-        )?;
+        self.check_inputs(&mut inputs, output)
+    }
+
+    // Checks the documents that these inputs have.
+    fn check_inputs<N: Inputs<Texts = OwnedDocuments>, W: Sink>(
+        &self,
+        inputs: &mut N,
+        output: &mut W,
+    ) -> Result<Exit, HintedFault>
+        ensures same { N.same inputs.old inputs.new }
+        ensures run { DocumentsOf self.now.plan (N.reads inputs.old inputs.new)
+            (writing_of W.Sink output.old output.new) (unhinted result) }
+    {
+        match self.plan {
+            DocumentsPlan::Answer(plan) => self.answer(plan, inputs, output),
+            DocumentsPlan::Printing(plan) => self.print(plan, inputs, output),
+        }
+    }
+
+    // Prints the answer.
+    fn answer<N: Inputs<Texts = OwnedDocuments>, W: Sink>(
+        &self,
+        plan: AnswerPlan,
+        inputs: &mut N,
+        output: &mut W,
+    ) -> Result<Exit, HintedFault>
+        ensures same { N.same inputs.old inputs.new }
+        ensures run { CheckOf (N.reads inputs.old inputs.new) (writing_of W.Sink output.old output.new)
+            (unhinted result) }
+    {
+        let progress = CheckProgress::new(self.rt, plan.progress);
+        let check = Watched {
+            plan: plan.check,
+            watch: &progress,
+            hints: plan.hints,
+        };
+        let mut outputs = OneSink { sink: output };
+        let status = run_check_watched(self.rt, self.alloc, &check, inputs, &mut outputs)?;
+        tell_scope(&progress, plan.scope, status);
         Ok(Exit::of_status(status))
+    }
+
+    // Prints more than the answer.
+    fn print<N: Inputs<Texts = OwnedDocuments>, W: Sink>(
+        &self,
+        plan: PrintingPlan,
+        inputs: &mut N,
+        output: &mut W,
+    ) -> Result<Exit, HintedFault>
+        ensures same { N.same inputs.old inputs.new }
+        ensures run { PrintingOf plan.printing (N.reads inputs.old inputs.new)
+            (writing_of W.Sink output.old output.new) (unhinted result) }
+    {
+        let mut outputs = OneSink { sink: output };
+        let status = run_printing(self.rt, self.alloc, plan, inputs, &mut outputs)?;
+        Ok(Exit::of_status(status))
+    }
+}
+
+// Where a list is complete and somebody watches on a terminal, says what the listed arrangements stand for.
+fn tell_scope<R: Clock + Eprint>(
+    progress: &CheckProgress<'_, R>,
+    is_watched: bool,
+    status: Status,
+) {
+    if let (true, Status::Complete) = (is_watched, status) {
+        progress.tell_scope();
     }
 }

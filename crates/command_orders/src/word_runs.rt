@@ -16,7 +16,8 @@ use crate::streams::Streams;
 use byte_streams::{Document, FileSystem, Refusal, Sink, Source, write_whole};
 use command_runs::{HintedFault, RunFault, fault_text};
 use command_words::{
-    Files, Given, Order, PartPlaces, Place, Subject, ThreePlaces, TwoPlaces, WordsFault, order,
+    CensusOrder, CheckOrder, DrawOrder, ExpandOrder, Files, Given, Order, PartPlaces, Place,
+    Subject, WordsFault, order,
 };
 use std::alloc::Global;
 use std::random::RandomSource;
@@ -95,13 +96,13 @@ fn carry_out<
 fn is_always_told(order: &Order, fault: &RunFault) -> bool {
     match order {
         Order::Joined => false,
-        Order::Check { hints, .. } | Order::Solve { hints, .. } | Order::Expand { hints, .. } => {
-            *hints
-        }
-        Order::Explain(_) | Order::ExplainPuzzle(_) | Order::Count(_) | Order::Census { .. } => {
+        Order::Check(order) => order.hints,
+        Order::Solve(order) => order.hints,
+        Order::Expand(order) => order.hints,
+        Order::Explain(_) | Order::ExplainPuzzle(_) | Order::Count(_) | Order::Census(_) => {
             is_of_texts(fault)
         }
-        Order::Show(_) | Order::Draw { .. } | Order::Symmetries(_) | Order::Tiles { .. } => {
+        Order::Show(_) | Order::Draw(_) | Order::Symmetries(_) | Order::Tiles(_) => {
             is_of_texts(fault)
         }
         // which of many files it is has to be said everywhere
@@ -156,18 +157,19 @@ fn stream_hint(alloc: Global, stream: &str, refusal: Option<Refusal>) -> Option<
 // The name of the document's file, if the order reads it from one.
 fn file_of<'a>(order: &'a Order, document: Document) -> Option<&'a str> {
     match order {
-        Order::Check { files, .. } | Order::Solve { files, .. } => Some(name_in(files, document)),
-        Order::Explain(Given::Apart(places))
-        | Order::Count(Given::Apart(places))
-        | Order::Expand {
-            given: Given::Apart(places),
-            ..
-        } => file_of_three(places, document),
+        Order::Joined => None,
+        Order::Check(CheckOrder { given, .. })
+        | Order::Expand(ExpandOrder { given, .. })
+        | Order::Explain(given)
+        | Order::Count(given) => file_of_given(given, document),
+        Order::Solve(order) => Some(name_in(&order.files, document)),
         Order::ExplainPuzzle(place)
-        | Order::Census { puzzle: place, .. }
+        | Order::Census(CensusOrder { puzzle: place, .. })
         | Order::Symmetries(place) => file_at(place),
-        Order::Show(subject) | Order::Draw { subject, .. } => file_of_subject(subject, document),
-        _ => None,
+        Order::Show(subject) | Order::Draw(DrawOrder { subject, .. }) => file_of_subject(
+            subject, document,
+        ),
+        Order::Total(_) | Order::Tiles(_) => None,
     }
 }
 
@@ -187,30 +189,19 @@ fn file_at<'a>(place: &'a Place) -> Option<&'a str> {
 }
 
 fn file_of_subject<'a>(subject: &'a Subject, document: Document) -> Option<&'a str> {
-    match subject {
-        Subject::Board(place) => file_at(place),
-        Subject::Listed { places, .. } => match (places, document) {
-            (TwoPlaces::Files { list, .. }, Document::List) => Some(list),
-            (TwoPlaces::Files { puzzle, .. }, _) => Some(puzzle),
-            (TwoPlaces::PuzzleOnInput { list }, Document::List) => Some(list),
-            (TwoPlaces::ListOnInput { puzzle }, Document::Puzzle) => Some(puzzle),
-            _ => None,
-        },
+    match (subject, document) {
+        (Subject::Board(place), _) => file_at(place),
+        (Subject::Listed { places, .. }, Document::List) => file_at(&places.list),
+        (Subject::Listed { places, .. }, _) => file_at(&places.puzzle),
     }
 }
 
-fn file_of_three<'a>(places: &'a ThreePlaces, document: Document) -> Option<&'a str> {
-    match (places, document) {
-        (ThreePlaces::Files(files), _) => Some(name_in(files, document)),
-        (ThreePlaces::PuzzleOnInput { list, .. }, Document::List) => Some(list),
-        (ThreePlaces::PuzzleOnInput { certificate, .. }, Document::Certificate) => Some(
-            certificate,
-        ),
-        (ThreePlaces::ListOnInput { puzzle, .. }, Document::Puzzle) => Some(puzzle),
-        (ThreePlaces::ListOnInput { certificate, .. }, Document::Certificate) => Some(certificate),
-        (ThreePlaces::CertificateOnInput { puzzle, .. }, Document::Puzzle) => Some(puzzle),
-        (ThreePlaces::CertificateOnInput { list, .. }, Document::List) => Some(list),
-        _ => None,
+fn file_of_given<'a>(given: &'a Given, document: Document) -> Option<&'a str> {
+    match (given, document) {
+        (Given::Joined, _) => None,
+        (Given::Apart(places), Document::List) => file_at(&places.list),
+        (Given::Apart(places), Document::Certificate) => file_at(&places.certificate),
+        (Given::Apart(places), _) => file_at(&places.puzzle),
     }
 }
 
@@ -226,26 +217,22 @@ fn tell_what_is_read<R: Eprint>(rt: &R, order: &Order) {
 // Which documents of the order are read from standard input.
 fn read_from_input(order: &Order) -> Option<&'static str> {
     match order {
-        Order::Joined
-        | Order::Explain(Given::Joined)
-        | Order::Expand {
-            given: Given::Joined,
-            ..
-        }
-        | Order::Count(Given::Joined) => Some("a puzzle, its list and its certificate, joined,"),
-        Order::Explain(Given::Apart(places)) | Order::Count(Given::Apart(places)) => {
-            one_of_three(places)
-        }
+        Order::Joined => Some(ALL_THREE),
+        Order::Check(CheckOrder { given, .. })
+        | Order::Expand(ExpandOrder { given, .. })
+        | Order::Explain(given)
+        | Order::Count(given) => given_on_input(given),
         Order::ExplainPuzzle(place)
-        | Order::Census { puzzle: place, .. }
+        | Order::Census(CensusOrder { puzzle: place, .. })
         | Order::Symmetries(place) => { puzzle_alone(place) }
         Order::Total(PartPlaces::Input) => Some("lines of counted parts"),
         Order::Total(PartPlaces::Files(_)) => None,
-        Order::Show(subject) | Order::Draw { subject, .. } => one_of_subject(subject),
-        Order::Check { .. } | Order::Solve { .. } | Order::Expand { .. } | Order::Tiles { .. } =>
-            None,
+        Order::Show(subject) | Order::Draw(DrawOrder { subject, .. }) => one_of_subject(subject),
+        Order::Solve(_) | Order::Tiles(_) => None,
     }
 }
+
+const ALL_THREE: &str = "a puzzle, its list and its certificate, joined,";
 
 const PUZZLE: &str = "a puzzle";
 
@@ -261,20 +248,17 @@ fn puzzle_alone(place: &Place) -> Option<&'static str> {
 fn one_of_subject(subject: &Subject) -> Option<&'static str> {
     match subject {
         Subject::Board(place) => puzzle_alone(place),
-        Subject::Listed { places, .. } => match places {
-            TwoPlaces::Files { .. } => None,
-            TwoPlaces::PuzzleOnInput { .. } => Some(PUZZLE),
-            TwoPlaces::ListOnInput { .. } => Some(LIST),
-        },
+        Subject::Listed { places, .. } if places.list.is_input() => Some(LIST),
+        Subject::Listed { places, .. } => puzzle_alone(&places.puzzle),
     }
 }
 
-fn one_of_three(places: &ThreePlaces) -> Option<&'static str> {
-    match places {
-        ThreePlaces::Files(_) => None,
-        ThreePlaces::PuzzleOnInput { .. } => Some(PUZZLE),
-        ThreePlaces::ListOnInput { .. } => Some(LIST),
-        ThreePlaces::CertificateOnInput { .. } => Some("a certificate"),
+fn given_on_input(given: &Given) -> Option<&'static str> {
+    match given {
+        Given::Joined => Some(ALL_THREE),
+        Given::Apart(places) if places.list.is_input() => Some(LIST),
+        Given::Apart(places) if places.certificate.is_input() => Some("a certificate"),
+        Given::Apart(places) => puzzle_alone(&places.puzzle),
     }
 }
 

@@ -19,9 +19,6 @@ passing name rows m is = passing_at name name rows (entered name rows m) refl is
 check_needed : (rows : List Row) → AreMatchesOf (codes "check") rows → HasNeeded (command_at (codes "check")) rows
 check_needed rows m = needed (codes "check") rows m refl
 
-pub check_files : (rows : List Row) → AreMatchesOf (codes "check") rows → HasFiles rows
-check_files rows m = has_files (command_at (codes "check")) rows (check_needed rows m) refl refl refl
-
 pub check_workers : (rows : List Row) → AreMatchesOf (codes "check") rows → HasNumber (codes "workers") 1 64 rows
 check_workers rows m = has_number (command_at (codes "check")) rows (rule_at (command_at (codes "check")) 3) 1 64 (check_needed rows m) refl refl refl
 
@@ -51,14 +48,11 @@ solve_fuel rows m = has_number (command_at (codes "solve")) rows (rule_at (comma
 pub solve_workers : (rows : List Row) → AreMatchesOf (codes "solve") rows → HasNumber (codes "workers") 1 64 rows
 solve_workers rows m = has_number (command_at (codes "solve")) rows (rule_at (command_at (codes "solve")) 5) 1 64 (solve_needed rows m) refl refl refl
 
-pub solve_keep : (rows : List Row) → AreMatchesOf (codes "solve") rows → HasFlag (codes "keep") rows
-solve_keep rows m = has_flag (command_at (codes "solve")) rows (rule_at (command_at (codes "solve")) 7) (solve_needed rows m) refl refl refl
-
 pub solve_progress : (rows : List Row) → AreMatchesOf (codes "solve") rows → HasFlag (codes "progress") rows
-solve_progress rows m = has_flag (command_at (codes "solve")) rows (rule_at (command_at (codes "solve")) 8) (solve_needed rows m) refl refl refl
+solve_progress rows m = has_flag (command_at (codes "solve")) rows (rule_at (command_at (codes "solve")) 7) (solve_needed rows m) refl refl refl
 
 pub solve_hints : (rows : List Row) → AreMatchesOf (codes "solve") rows → HasFlag (codes "hints") rows
-solve_hints rows m = has_flag (command_at (codes "solve")) rows (rule_at (command_at (codes "solve")) 9) (solve_needed rows m) refl refl refl
+solve_hints rows m = has_flag (command_at (codes "solve")) rows (rule_at (command_at (codes "solve")) 8) (solve_needed rows m) refl refl refl
 
 -- ---- `expand`
 

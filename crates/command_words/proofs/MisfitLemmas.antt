@@ -4,8 +4,8 @@ use Rattle.std.specs.Str.{bytes_eq}
 use Rattle.std.proofs.lemmas.Slice.Eq.{bytes_eq-Decides}
 use Rattle.clap.specs.Words.{Row, Text, first_of}
 use Rattle.command_words.specs.Asked.{AreAskedFor, IsAsked, MayStandAt}
-use Rattle.command_words.specs.Orders.{ArePlaces, AreWritable, AskFor, IsExtent, IsGiven, IsGivenInFiles, IsMisfit, IsOrderOf, IsPlace, IsSubject, NameFiles, NameNothing, NamesPuzzle, TellsOfMisfit}
-use Rattle.command_words.specs.Places.{AreTwoOnInput, certificate_place, list_of_two, list_place, puzzle_of_two, puzzle_place}
+use Rattle.command_words.specs.Orders.{ArePlaces, AreWritable, AskFor, IsExtent, IsGiven, IsMisfit, IsOrderOf, IsPlace, IsSubject, NameFiles, NameNothing, NamesPuzzle, TellsOfMisfit}
+use Rattle.command_words.specs.Places.{AreTwoOnInput}
 use Rattle.command_words.specs.declared.faults.WordsFault.{WordsFault}
 use Rattle.command_words.specs.declared.faults.WordsFault.TheVariants.{Words, Memory}
 use Rattle.command_words.specs.declared.orders.Extent.{Extent}
@@ -19,10 +19,7 @@ use Rattle.command_words.specs.declared.places.Given.{Given}
 use Rattle.command_words.specs.declared.places.Given.TheVariants.{Joined, Apart}
 use Rattle.command_words.specs.declared.places.Place.{Place}
 use Rattle.command_words.specs.declared.places.Place.TheVariants.{File, Input}
-use Rattle.command_words.specs.declared.places.ThreePlaces.{ThreePlaces}
-use Rattle.command_words.specs.declared.places.ThreePlaces.TheVariants as three
-use Rattle.command_words.specs.declared.places.TwoPlaces.{TwoPlaces}
-use Rattle.command_words.specs.declared.places.TwoPlaces.TheVariants as two
+use Rattle.command_words.specs.declared.places.Places.{Places}
 use Rattle.command_words.specs.declared.readings.Asked.{Asked}
 use Rattle.command_words.specs.declared.readings.Asked.TheVariants as asked
 use Rattle.match_symmetry.specs.declared.choices.Suggested.{Suggested}
@@ -41,35 +38,35 @@ pub no_count : (rows : List Row) → ((given : Given) → IsGiven rows given →
     → ((puzzle : Place) (extent : Extent) → NamesPuzzle rows puzzle → IsExtent rows extent → ⊥)
     → (order : Order) → IsOrderOf (Some (codes "count", rows)) order → ⊥
 no_count rows listed searched orders.Joined is = is
-no_count rows listed searched (orders.Check files workers forks progress hints) is = differ (codes "count") (codes "check") refl is.0
+no_count rows listed searched (orders.Check order) is = differ (codes "count") (codes "check") refl is.0
 no_count rows listed searched (orders.Explain given) is = differ (codes "count") (codes "explain") refl is.0
 no_count rows listed searched (orders.ExplainPuzzle puzzle) is = differ (codes "count") (codes "explain") refl is.0
-no_count rows listed searched (orders.Solve files depth fuel workers symmetries keep progress hints) is = differ (codes "count") (codes "solve") refl is.0
-no_count rows listed searched (orders.Expand given orbits hints) is = differ (codes "count") (codes "expand") refl is.0
+no_count rows listed searched (orders.Solve order) is = differ (codes "count") (codes "solve") refl is.0
+no_count rows listed searched (orders.Expand order) is = differ (codes "count") (codes "expand") refl is.0
 no_count rows listed searched (orders.Count given) is = listed given is.1 is.2
-no_count rows listed searched (orders.Census puzzle extent workers progress) is = searched puzzle extent is.1 is.2
+no_count rows listed searched (orders.Census order) is = searched order.puzzle order.extent is.1 is.2
 no_count rows listed searched (orders.Total parts) is = differ (codes "count") (codes "total") refl is.0
 no_count rows listed searched (orders.Show subject) is = differ (codes "count") (codes "show") refl is.0
-no_count rows listed searched (orders.Draw subject first numbers) is = differ (codes "count") (codes "draw") refl is.0
+no_count rows listed searched (orders.Draw order) is = differ (codes "count") (codes "draw") refl is.0
 no_count rows listed searched (orders.Symmetries puzzle) is = differ (codes "count") (codes "symmetries") refl is.0
-no_count rows listed searched (orders.Tiles sides colours lines) is = differ (codes "count") (codes "tiles") refl is.0
+no_count rows listed searched (orders.Tiles order) is = differ (codes "count") (codes "tiles") refl is.0
 
 -- none where there is no solve
 no_solve : (rows : List Row) → ((files : Files) (symmetries : Suggested) → NameFiles rows files → AreWritable files → AskFor rows symmetries → ⊥)
     → (order : Order) → IsOrderOf (Some (codes "solve", rows)) order → ⊥
 no_solve rows none orders.Joined is = is
-no_solve rows none (orders.Check files workers forks progress hints) is = differ (codes "solve") (codes "check") refl is.0
+no_solve rows none (orders.Check order) is = differ (codes "solve") (codes "check") refl is.0
 no_solve rows none (orders.Explain given) is = differ (codes "solve") (codes "explain") refl is.0
 no_solve rows none (orders.ExplainPuzzle puzzle) is = differ (codes "solve") (codes "explain") refl is.0
-no_solve rows none (orders.Solve files depth fuel workers symmetries keep progress hints) is = none files symmetries is.1 is.2 is.6
-no_solve rows none (orders.Expand given orbits hints) is = differ (codes "solve") (codes "expand") refl is.0
+no_solve rows none (orders.Solve order) is = none order.files order.symmetries is.1 is.2 is.6
+no_solve rows none (orders.Expand order) is = differ (codes "solve") (codes "expand") refl is.0
 no_solve rows none (orders.Count given) is = differ (codes "solve") (codes "count") refl is.0
-no_solve rows none (orders.Census puzzle extent workers progress) is = differ (codes "solve") (codes "count") refl is.0
+no_solve rows none (orders.Census order) is = differ (codes "solve") (codes "count") refl is.0
 no_solve rows none (orders.Total parts) is = differ (codes "solve") (codes "total") refl is.0
 no_solve rows none (orders.Show subject) is = differ (codes "solve") (codes "show") refl is.0
-no_solve rows none (orders.Draw subject first numbers) is = differ (codes "solve") (codes "draw") refl is.0
+no_solve rows none (orders.Draw order) is = differ (codes "solve") (codes "draw") refl is.0
 no_solve rows none (orders.Symmetries puzzle) is = differ (codes "solve") (codes "symmetries") refl is.0
-no_solve rows none (orders.Tiles sides colours lines) is = differ (codes "solve") (codes "tiles") refl is.0
+no_solve rows none (orders.Tiles order) is = differ (codes "solve") (codes "tiles") refl is.0
 
 -- none of a solve whose list or certificate has the name of standard input
 pub not_writable : (rows : List Row) (files : Files) → NameFiles rows files → (AreWritable files → ⊥) → (order : Order) → IsOrderOf (Some (codes "solve", rows)) order → ⊥
@@ -81,12 +78,6 @@ not_writable rows files named not = no_solve rows (λ other symmetries names wri
 -- none of a solve that asks for no symmetries
 pub not_suggested : (rows : List Row) → ((symmetries : Suggested) → AskFor rows symmetries → ⊥) → (order : Order) → IsOrderOf (Some (codes "solve", rows)) order → ⊥
 not_suggested rows none = no_solve rows (λ files symmetries names writable asked. none symmetries asked)
-
--- files of which but some are named
-pub but_some : (rows : List Row) → (NameNothing rows → ⊥) → ((files : Files) → NameFiles rows files → ⊥) → (any : Given) → IsGivenInFiles rows any → ⊥
-but_some rows nothing all Joined is = nothing is
-but_some rows nothing all (Apart (three.Files files)) is = all files is
-but_some rows nothing all (Apart places) is = is
 
 pub named_at : (rows : List Row) (id : Text) (text : Text) → first_of id rows ≡ Some text → first_of id rows ≡ None → ⊥
 named_at rows id text is none = none_is_some (sym none ∙ is)
@@ -111,48 +102,27 @@ module _ (rows : List Row) where
   on_input id Input (File name) is so e = absurd (so.1 (some_is (sym so.0 ∙ is)))
   on_input id (File name) other is so e = absurd (file_is_input e)
 
-  -- a puzzle and a list
-  two_once : (places : TwoPlaces) → puzzle_of_two places ≡ Input → list_of_two places ≡ Input → ⊥
-  two_once (two.Files puzzle list) first second = file_is_input first
-  two_once (two.PuzzleOnInput list) first second = file_is_input second
-  two_once (two.ListOnInput puzzle) first second = file_is_input first
-
   pub no_subject : (puzzle list : Place) → IsPlace (codes "PUZZLE") rows puzzle → IsPlace (codes "LIST") rows list → puzzle ≡ Input → list ≡ Input
       → (subject : Subject) → IsSubject rows subject → ⊥
   no_subject puzzle list first second one other (Board place) is = named (codes "LIST") list second is.1
   no_subject puzzle list first second one other (Listed places number) is =
-      two_once places (on_input (codes "PUZZLE") puzzle (puzzle_of_two places) first is.0 one) (on_input (codes "LIST") list (list_of_two places) second is.1 other)
-
-  -- a puzzle, a list and a certificate
-  three_once : (places : ThreePlaces) → AreTwoOnInput (puzzle_place places) (list_place places) (certificate_place places) → ⊥
-  three_once (three.Files files) (inl is) = file_is_input is.0
-  three_once (three.Files files) (inr (inl is)) = file_is_input is.0
-  three_once (three.Files files) (inr (inr is)) = file_is_input is.0
-  three_once (three.PuzzleOnInput list certificate) (inl is) = file_is_input is.1
-  three_once (three.PuzzleOnInput list certificate) (inr (inl is)) = file_is_input is.1
-  three_once (three.PuzzleOnInput list certificate) (inr (inr is)) = file_is_input is.0
-  three_once (three.ListOnInput puzzle certificate) (inl is) = file_is_input is.0
-  three_once (three.ListOnInput puzzle certificate) (inr (inl is)) = file_is_input is.0
-  three_once (three.ListOnInput puzzle certificate) (inr (inr is)) = file_is_input is.1
-  three_once (three.CertificateOnInput puzzle list) (inl is) = file_is_input is.0
-  three_once (three.CertificateOnInput puzzle list) (inr (inl is)) = file_is_input is.0
-  three_once (three.CertificateOnInput puzzle list) (inr (inr is)) = file_is_input is.0
+      places.once (on_input (codes "PUZZLE") puzzle places.puzzle first is.0 one, on_input (codes "LIST") list places.list second is.1 other)
 
   module _ (puzzle list certificate : Place) (first : IsPlace (codes "PUZZLE") rows puzzle) (second : IsPlace (codes "LIST") rows list) (third : IsPlace (codes "CERTIFICATE") rows certificate) where
-    at_puzzle : (places : ThreePlaces) → ArePlaces rows places → puzzle ≡ Input → puzzle_place places ≡ Input
-    at_puzzle places is = on_input (codes "PUZZLE") puzzle (puzzle_place places) first is.puzzle
+    at_puzzle : (places : Places) → ArePlaces rows places → puzzle ≡ Input → places.puzzle ≡ Input
+    at_puzzle places is = on_input (codes "PUZZLE") puzzle places.puzzle first is.puzzle
 
-    at_list : (places : ThreePlaces) → ArePlaces rows places → list ≡ Input → list_place places ≡ Input
-    at_list places is = on_input (codes "LIST") list (list_place places) second is.list
+    at_list : (places : Places) → ArePlaces rows places → list ≡ Input → places.list ≡ Input
+    at_list places is = on_input (codes "LIST") list places.list second is.list
 
-    at_certificate : (places : ThreePlaces) → ArePlaces rows places → certificate ≡ Input → certificate_place places ≡ Input
-    at_certificate places is = on_input (codes "CERTIFICATE") certificate (certificate_place places) third is.certificate
+    at_certificate : (places : Places) → ArePlaces rows places → certificate ≡ Input → places.certificate ≡ Input
+    at_certificate places is = on_input (codes "CERTIFICATE") certificate places.certificate third is.certificate
 
     twice : AreTwoOnInput puzzle list certificate → (given : Given) → IsGiven rows given → ⊥
     twice both Joined is = named (codes "PUZZLE") puzzle first is.no_puzzle
-    twice (inl both) (Apart places) is = three_once places (inl (at_puzzle places is both.0, at_list places is both.1))
-    twice (inr (inl both)) (Apart places) is = three_once places (inr (inl (at_puzzle places is both.0, at_certificate places is both.1)))
-    twice (inr (inr both)) (Apart places) is = three_once places (inr (inr (at_list places is both.0, at_certificate places is both.1)))
+    twice (inl both) (Apart places) is = places.once (inl (at_puzzle places is both.0, at_list places is both.1))
+    twice (inr (inl both)) (Apart places) is = places.once (inr (inl (at_puzzle places is both.0, at_certificate places is both.1)))
+    twice (inr (inr both)) (Apart places) is = places.once (inr (inr (at_list places is both.0, at_certificate places is both.1)))
 
   -- what is named, and is not there, or is there, and is not named
   unlisted : (puzzle list certificate : Option Place) → MayStandAt (codes "PUZZLE") rows puzzle → MayStandAt (codes "LIST") rows list → MayStandAt (codes "CERTIFICATE") rows certificate
@@ -165,22 +135,22 @@ module _ (rows : List Row) where
     where
       given : (any : Given) → IsGiven rows any → ⊥
       given Joined is = named (codes "LIST") list second is.no_list
-      given (Apart places) is = named (codes "CERTIFICATE") (certificate_place places) is.certificate third
+      given (Apart places) is = named (codes "CERTIFICATE") places.certificate is.certificate third
   unlisted (Some puzzle) None (Some certificate) first second third reason is = (given, λ place alone. named (codes "CERTIFICATE") certificate third alone.no_certificate)
     where
       given : (any : Given) → IsGiven rows any → ⊥
       given Joined is = named (codes "CERTIFICATE") certificate third is.no_certificate
-      given (Apart places) is = named (codes "LIST") (list_place places) is.list second
+      given (Apart places) is = named (codes "LIST") places.list is.list second
   unlisted None (Some list) certificate first second third reason is = (given, λ place alone. named (codes "LIST") list second alone.no_list)
     where
       given : (any : Given) → IsGiven rows any → ⊥
       given Joined is = named (codes "LIST") list second is.no_list
-      given (Apart places) is = named (codes "PUZZLE") (puzzle_place places) is.puzzle first
+      given (Apart places) is = named (codes "PUZZLE") places.puzzle is.puzzle first
   unlisted None None (Some certificate) first second third reason is = (given, λ place alone. named (codes "CERTIFICATE") certificate third alone.no_certificate)
     where
       given : (any : Given) → IsGiven rows any → ⊥
       given Joined is = named (codes "CERTIFICATE") certificate third is.no_certificate
-      given (Apart places) is = named (codes "PUZZLE") (puzzle_place places) is.puzzle first
+      given (Apart places) is = named (codes "PUZZLE") places.puzzle is.puzzle first
 
   pub asked_in : (puzzle list certificate : Option Place) → MayStandAt (codes "PUZZLE") rows puzzle → MayStandAt (codes "LIST") rows list → MayStandAt (codes "CERTIFICATE") rows certificate
       → (what : Asked) → AreAskedFor puzzle list certificate what → IsAsked rows what
@@ -218,4 +188,4 @@ module _ (rows : List Row) where
 
   pub no_search : (given : Given) (extent : Extent) → IsGiven rows given → IsExtent rows extent → (IsExtent rows extents.All → ⊥) → (order : Order) → IsOrderOf (Some (codes "count", rows)) order → ⊥
   no_search Joined extent is asks some = no_count rows (λ other so all. some all) (λ place more alone so. named (codes "PUZZLE") place alone.at is.no_puzzle)
-  no_search (Apart places) extent is asks some = no_count rows (λ other so all. some all) (λ place more alone so. named (codes "LIST") (list_place places) is.list alone.no_list)
+  no_search (Apart places) extent is asks some = no_count rows (λ other so all. some all) (λ place more alone so. named (codes "LIST") places.list is.list alone.no_list)

@@ -69,18 +69,18 @@ no_parts names many has (parts.Files files) is = is.1 has
 -- none of a sum of lines that stand nowhere
 pub no_total : (rows : List Row) → ((any : PartPlaces) → AreNamedParts (values_of (codes "FILE") rows) any → ⊥) → (order : Order) → IsOrderOf (Some (codes "total", rows)) order → ⊥
 no_total rows nowhere orders.Joined is = is
-no_total rows nowhere (orders.Check files workers forks progress hints) is = differ (codes "total") (codes "check") refl is.0
+no_total rows nowhere (orders.Check order) is = differ (codes "total") (codes "check") refl is.0
 no_total rows nowhere (orders.Explain given) is = differ (codes "total") (codes "explain") refl is.0
 no_total rows nowhere (orders.ExplainPuzzle puzzle) is = differ (codes "total") (codes "explain") refl is.0
-no_total rows nowhere (orders.Solve files depth fuel workers symmetries keep progress hints) is = differ (codes "total") (codes "solve") refl is.0
-no_total rows nowhere (orders.Expand given orbits hints) is = differ (codes "total") (codes "expand") refl is.0
+no_total rows nowhere (orders.Solve order) is = differ (codes "total") (codes "solve") refl is.0
+no_total rows nowhere (orders.Expand order) is = differ (codes "total") (codes "expand") refl is.0
 no_total rows nowhere (orders.Count given) is = differ (codes "total") (codes "count") refl is.0
-no_total rows nowhere (orders.Census puzzle extent workers progress) is = differ (codes "total") (codes "count") refl is.0
+no_total rows nowhere (orders.Census order) is = differ (codes "total") (codes "count") refl is.0
 no_total rows nowhere (orders.Total places) is = nowhere places is.1
 no_total rows nowhere (orders.Show subject) is = differ (codes "total") (codes "show") refl is.0
-no_total rows nowhere (orders.Draw subject first numbers) is = differ (codes "total") (codes "draw") refl is.0
+no_total rows nowhere (orders.Draw order) is = differ (codes "total") (codes "draw") refl is.0
 no_total rows nowhere (orders.Symmetries puzzle) is = differ (codes "total") (codes "symmetries") refl is.0
-no_total rows nowhere (orders.Tiles sides colours lines) is = differ (codes "total") (codes "tiles") refl is.0
+no_total rows nowhere (orders.Tiles order) is = differ (codes "total") (codes "tiles") refl is.0
 
 -- ---- all values of an argument
 

@@ -1,8 +1,8 @@
 -- What words ask of documents.
-use Rattle.std.specs.Prelude.{◌≡◌, List, Option, Some, None}
+use Rattle.std.specs.Prelude.{◌≡◌, List, Option, Some, None, Result, Ok, Err}
 use Rattle.clap.specs.Words.{Row, Text, first_of}
 use Rattle.command_words.specs.Orders.{IsGiven, IsPlace, NamesPuzzle}
-use Rattle.command_words.specs.Places.{AreTwoOnInput, certificate_place, list_place, puzzle_place}
+use Rattle.command_words.specs.Places.{AreTwoOnInput}
 use Rattle.command_words.specs.declared.places.Given.{Given}
 use Rattle.command_words.specs.declared.places.Given.TheVariants.{Joined, Apart}
 use Rattle.command_words.specs.declared.places.Place.{Place}
@@ -20,14 +20,19 @@ abbrev pub AreAskedFor : (puzzle list certificate : Option Place) → Asked → 
 AreAskedFor None None None (asked.Given Joined) = Unit {0}
 AreAskedFor (Some puzzle) None None (asked.Puzzle place) = place ≡ puzzle
 AreAskedFor (Some puzzle) (Some list) (Some certificate) (asked.Given (Apart places)) =
-    (puzzle_place places ≡ puzzle) × (list_place places ≡ list) × (certificate_place places ≡ certificate)
+    (places.puzzle ≡ puzzle) × (places.list ≡ list) × (places.certificate ≡ certificate)
 AreAskedFor None None None (asked.Nothing reason) = ⊥
 AreAskedFor (Some puzzle) None None (asked.Nothing reason) = ⊥
 AreAskedFor (Some puzzle) (Some list) (Some certificate) (asked.Nothing reason) = AreTwoOnInput puzzle list certificate
 AreAskedFor puzzle list certificate (asked.Nothing reason) = Unit {0}
 AreAskedFor puzzle list certificate what = ⊥
 
--- What the matches of `explain` or `count` ask of documents.
+-- What the matches of a command ask of three documents: how they are given, or they give no such three.
+abbrev pub IsOfThree : {E : Type 0} → List Row → Result Given E → Type 0
+IsOfThree rows (Ok given) = IsGiven rows given
+IsOfThree rows (Err reason) = (given : Given) → IsGiven rows given → ⊥
+
+-- What the matches of a command ask of documents.
 abbrev pub IsAsked : List Row → Asked → Type 0
 IsAsked rows (asked.Given given) = IsGiven rows given
 IsAsked rows (asked.Puzzle puzzle) = NamesPuzzle rows puzzle

@@ -70,7 +70,7 @@ with_places app =
 
 abbrev pub check_app : App
 check_app =
-    with_rules (with_files (new_app (codes "check")))
+    with_rules (with_places (new_app (codes "check")))
     (optional_number (codes "workers") 1 MOST_WORKERS (codes "1")
     ∷ optional_number (codes "forks") 0 MOST_FORKS (codes "0")
     ∷ flag (codes "progress")
@@ -87,7 +87,6 @@ solve_app =
     ∷ optional_number (codes "fuel") 1 MOST_FUEL (codes "1000000")
     ∷ optional_number (codes "workers") 1 MOST_WORKERS (codes "1")
     ∷ optional_choice (codes "symmetries") (codes "all")
-    ∷ flag (codes "keep")
     ∷ flag (codes "progress")
     ∷ flag (codes "hints")
     ∷ [])

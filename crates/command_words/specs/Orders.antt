@@ -21,7 +21,7 @@ use Rattle.command_words.specs.Commands.{whole_app}
 use Rattle.command_words.specs.Parts.{IsPartsText}
 use Rattle.match_symmetry.specs.declared.choices.Suggested.{Suggested}
 use Rattle.match_symmetry.specs.declared.choices.Suggested.TheVariants as suggested
-use Rattle.command_words.specs.Places.{certificate_place, input_name, list_of_two, list_place, puzzle_of_two, puzzle_place}
+use Rattle.command_words.specs.Places.{input_name}
 use Rattle.command_words.specs.declared.places.Given.{Given}
 use Rattle.command_words.specs.declared.places.Given.TheVariants.{Apart}
 use Rattle.command_words.specs.declared.places.Given.TheVariants as given
@@ -29,8 +29,7 @@ use Rattle.command_words.specs.declared.places.PartPlaces.{PartPlaces}
 use Rattle.command_words.specs.declared.places.PartPlaces.TheVariants as parts
 use Rattle.command_words.specs.declared.places.Place.{Place}
 use Rattle.command_words.specs.declared.places.Place.TheVariants.{File, Input}
-use Rattle.command_words.specs.declared.places.ThreePlaces.{ThreePlaces}
-use Rattle.command_words.specs.declared.places.ThreePlaces.TheVariants as three
+use Rattle.command_words.specs.declared.places.Places.{Places}
 
 -- The command of this name was entered by words that `clap` takes, and these are its matches.
 pub record AreMatchesOf (name : Text) (rows : List Row) : Type 0 where
@@ -91,10 +90,10 @@ AreNamedParts names parts.Input = names ≡ input_name ∷ []
 AreNamedParts names (parts.Files files) = (map string_bytes files.items ≡ names) × (Contains names input_name → ⊥)
 
 -- where a puzzle, a list and a certificate stand
-pub record ArePlaces (rows : List Row) (places : ThreePlaces) : Type 0 where
-  pub puzzle : IsPlace (codes "PUZZLE") rows (puzzle_place places)
-  pub list : IsPlace (codes "LIST") rows (list_place places)
-  pub certificate : IsPlace (codes "CERTIFICATE") rows (certificate_place places)
+pub record ArePlaces (rows : List Row) (places : Places) : Type 0 where
+  pub puzzle : IsPlace (codes "PUZZLE") rows places.puzzle
+  pub list : IsPlace (codes "LIST") rows places.list
+  pub certificate : IsPlace (codes "CERTIFICATE") rows places.certificate
 
 -- no document is named
 pub record NameNothing (rows : List Row) : Type 0 where
@@ -113,12 +112,6 @@ abbrev pub IsGiven : List Row → Given → Type 0
 IsGiven rows given.Joined = NameNothing rows
 IsGiven rows (Apart places) = ArePlaces rows places
 
--- The same of a command that reads standard input only where no document is named: `-` is a file too.
-abbrev pub IsGivenInFiles : List Row → Given → Type 0
-IsGivenInFiles rows given.Joined = NameNothing rows
-IsGivenInFiles rows (Apart (three.Files files)) = NameFiles rows files
-IsGivenInFiles rows given = ⊥
-
 -- the number that the matches of a command have under an id, a sign `+` before it or none; one that isn't given has its
 -- default
 abbrev pub number_of : Text → List Row → Option ℕ
@@ -128,7 +121,7 @@ number_of id rows = option_map (λ text. digits_value 10 (without_leading_plus t
 abbrev pub IsSubject : List Row → Subject → Type 0
 IsSubject rows (Board puzzle) = IsPlace (codes "PUZZLE") rows puzzle × (first_of (codes "LIST") rows ≡ None)
 IsSubject rows (Listed places number) =
-    IsPlace (codes "PUZZLE") rows (puzzle_of_two places) × IsPlace (codes "LIST") rows (list_of_two places)
+    IsPlace (codes "PUZZLE") rows places.puzzle × IsPlace (codes "LIST") rows places.list
     × (number_of (codes "N") rows ≡ Some number)
 
 -- how far a search counts by the matches of `count`
@@ -151,34 +144,34 @@ AskFor rows symmetries = first_of (codes "symmetries") rows ≡ Some (word_for s
 -- The command and its matches give the order.
 abbrev pub IsOrderOf : Option (Text × List Row) → Order → Type 0
 IsOrderOf None Joined = Unit {0}
-IsOrderOf (Some (name, rows)) (Check files workers forks progress hints) =
-    (name ≡ codes "check") × NameFiles rows files × (number_of (codes "workers") rows ≡ Some workers)
-    × (number_of (codes "forks") rows ≡ Some forks) × IsFlagged (codes "progress") rows progress
-    × IsFlagged (codes "hints") rows hints
+IsOrderOf (Some (name, rows)) (Check order) =
+    (name ≡ codes "check") × IsGiven rows order.given × (number_of (codes "workers") rows ≡ Some order.workers)
+    × (number_of (codes "forks") rows ≡ Some order.forks) × IsFlagged (codes "progress") rows order.progress
+    × IsFlagged (codes "hints") rows order.hints
 IsOrderOf (Some (name, rows)) (Explain given) = (name ≡ codes "explain") × IsGiven rows given
 IsOrderOf (Some (name, rows)) (ExplainPuzzle puzzle) = (name ≡ codes "explain") × NamesPuzzle rows puzzle
-IsOrderOf (Some (name, rows)) (Solve files depth fuel workers symmetries keep progress hints) =
-    (name ≡ codes "solve") × NameFiles rows files × AreWritable files × (number_of (codes "depth") rows ≡ Some depth)
-    × (number_of (codes "fuel") rows ≡ Some fuel) × (number_of (codes "workers") rows ≡ Some workers)
-    × AskFor rows symmetries × IsFlagged (codes "keep") rows keep × IsFlagged (codes "progress") rows progress
-    × IsFlagged (codes "hints") rows hints
-IsOrderOf (Some (name, rows)) (Expand given orbits hints) =
-    (name ≡ codes "expand") × IsGivenInFiles rows given × IsFlagged (codes "orbits") rows orbits
-    × IsFlagged (codes "hints") rows hints
+IsOrderOf (Some (name, rows)) (Solve order) =
+    (name ≡ codes "solve") × NameFiles rows order.files × AreWritable order.files
+    × (number_of (codes "depth") rows ≡ Some order.depth) × (number_of (codes "fuel") rows ≡ Some order.fuel)
+    × (number_of (codes "workers") rows ≡ Some order.workers) × AskFor rows order.symmetries
+    × IsFlagged (codes "progress") rows order.progress × IsFlagged (codes "hints") rows order.hints
+IsOrderOf (Some (name, rows)) (Expand order) =
+    (name ≡ codes "expand") × IsGiven rows order.given × IsFlagged (codes "orbits") rows order.orbits
+    × IsFlagged (codes "hints") rows order.hints
 IsOrderOf (Some (name, rows)) (Count given) = (name ≡ codes "count") × IsGiven rows given × IsExtent rows extents.All
-IsOrderOf (Some (name, rows)) (Census puzzle extent workers progress) =
-    (name ≡ codes "count") × NamesPuzzle rows puzzle × IsExtent rows extent
-    × (number_of (codes "workers") rows ≡ Some workers) × IsFlagged (codes "progress") rows progress
+IsOrderOf (Some (name, rows)) (Census order) =
+    (name ≡ codes "count") × NamesPuzzle rows order.puzzle × IsExtent rows order.extent
+    × (number_of (codes "workers") rows ≡ Some order.workers) × IsFlagged (codes "progress") rows order.progress
 IsOrderOf (Some (name, rows)) (Total parts) = (name ≡ codes "total") × AreNamedParts (values_of (codes "FILE") rows) parts
 IsOrderOf (Some (name, rows)) (Show subject) = (name ≡ codes "show") × IsSubject rows subject
-IsOrderOf (Some (name, rows)) (Draw subject first numbers) =
-    (name ≡ codes "draw") × IsSubject rows subject × (number_of (codes "first") rows ≡ Some first)
-    × IsFlagged (codes "numbers") rows numbers
+IsOrderOf (Some (name, rows)) (Draw order) =
+    (name ≡ codes "draw") × IsSubject rows order.subject × (number_of (codes "first") rows ≡ Some order.first)
+    × IsFlagged (codes "numbers") rows order.numbers
 IsOrderOf (Some (name, rows)) (Symmetries puzzle) =
     (name ≡ codes "symmetries") × IsPlace (codes "PUZZLE") rows puzzle
-IsOrderOf (Some (name, rows)) (Tiles sides colours lines) =
-    (name ≡ codes "tiles") × (number_of (codes "SIDES") rows ≡ Some sides)
-    × (number_of (codes "COLOURS") rows ≡ Some colours) × IsFlagged (codes "lines") rows lines
+IsOrderOf (Some (name, rows)) (Tiles order) =
+    (name ≡ codes "tiles") × (number_of (codes "SIDES") rows ≡ Some order.sides)
+    × (number_of (codes "COLOURS") rows ≡ Some order.colours) × IsFlagged (codes "lines") rows order.lines
 IsOrderOf matches order = ⊥
 
 -- The words give the order, by what the program's commands make of them.

@@ -22,9 +22,9 @@ const VERSION: &str = "0.1.0 (proved with rattle-kit-13f logic dac8208d650f15bf)
 
 const WITHOUT_COMMAND: &str = "\
 Without a command it reads a puzzle, a list and a certificate from standard input, one after the other, and \
-checks them. explain, count and expand read the three from there too where no file is named. For explain, \
-count, total, show, draw and symmetries, one document may be named -, which is standard input; ./- is a file \
-of that name.
+checks them. check, explain, count and expand read the three from there too where no file is named. One \
+document that a command reads may be named -, which is standard input; ./- is a file of that name. But solve \
+reads its puzzle from a file.
 
 Exit status:
   0  done; for a check, the list is complete
@@ -42,6 +42,9 @@ terminal says how many arrangements are listed, and whether there are others, wh
 The answer is the same for any number of workers and forks. With --progress it says how far it is while it \
 runs; this doesn't change the answer.
 
+Without files it reads the puzzle, the list and the certificate from standard input, one after the other. A \
+file that is named - is standard input.
+
 Exit status:
   0  the list is complete
   1  the certificate does not show that the list is complete
@@ -57,11 +60,10 @@ claims that it is made of), a line for each worker with the lemmas that it took,
 the first arrangement. With --progress it says how far it is while it runs.
 
 The two are made beside their names and renamed once both are written. So after any fault until then, gave up \
-included, the files that were there before are as they were. --keep asks for this; it is done in any case, so \
---keep changes nothing. Links are followed, modes are kept, and devices and pipes are written directly. So is \
-a file that is already open: one that a standard stream has open, or one that a name like /dev/stdout or \
-/dev/fd/3 leads to. Where another run put its file under one of the two names, that is said at the end. \
-Neither may be named -: ./- is a file of that name.
+included, the files that were there before are as they were. Links are followed, modes are kept, and devices \
+and pipes are written directly. So is a file that is already open: one that a standard stream has open, or \
+one that a name like /dev/stdout or /dev/fd/3 leads to. Where another run put its file under one of the two \
+names, that is said at the end. Neither may be named -: ./- is a file of that name.
 
 With a depth of 1 or more it first looks for symmetries of the puzzle. Up to 64 branches in the first levels, \
 as many as the depth says, become lemmas. It cites these and their images instead of searching again: most \
@@ -94,7 +96,8 @@ With --orbits it prints one arrangement of each orbit. An orbit is all arrangeme
 into each other. Of the list, in its order, it prints those that the symmetries take no earlier one to. How \
 many there are is what count calls orbits.
 
-Without files it reads the puzzle, the list and the certificate from standard input, one after the other.
+Without files it reads the puzzle, the list and the certificate from standard input, one after the other. A \
+file that is named - is standard input.
 
 Exit status:
   0  every arrangement of the puzzle is printed, once; with --orbits one of each orbit
@@ -402,13 +405,6 @@ const SUGGESTED: Argument = Argument {
     help: "Which symmetries the certificate names: all, or board for those that leave each colour as it is",
 };
 
-const KEEP: Argument = Argument {
-    id: "keep",
-    kind: Kind::Flag,
-    number: None,
-    help: "Leaves LIST and CERTIFICATE as they are until both are written; this is done in any case",
-};
-
 const ORBITS: Argument = Argument {
     id: "orbits",
     kind: Kind::Flag,
@@ -517,9 +513,9 @@ const CHECK: CommandTable = CommandTable {
     name: "check",
     about: "Checks that a list has every arrangement of a puzzle",
     arguments: &[
-        PUZZLE,
-        LIST,
-        CERTIFICATE,
+        ANY_PUZZLE,
+        ANY_LIST,
+        ANY_CERTIFICATE,
         CHECKING_WORKERS,
         FORKS,
         PROGRESS,
@@ -546,7 +542,6 @@ const SOLVE: CommandTable = CommandTable {
         FUEL,
         SEARCHING_WORKERS,
         SUGGESTED,
-        KEEP,
         PROGRESS,
         HINTS,
     ],
@@ -673,7 +668,7 @@ fn bare_program<'a>(alloc: Global) -> Result<Command<'a>, AllocError>
         .bin_name(NAME)
 }
 
-fn check<'a>(alloc: Global) -> Result<Command<'a>, AllocError>
+pub(crate) fn check<'a>(alloc: Global) -> Result<Command<'a>, AllocError>
     ensures { IfOk result (IsCommandAs check_app) }
 {
     command_of(alloc, &CHECK)

@@ -8,6 +8,9 @@ mod places;
 mod readings;
 
 pub use faults::WordsFault;
-pub use orders::{Extent, Order, Parts, Subject};
-pub use places::{Files, Given, PartPlaces, Place, ThreePlaces, TwoPlaces};
+pub use orders::{
+    CensusOrder, CheckOrder, DrawOrder, ExpandOrder, Extent, Order, Parts, SolveOrder, Subject,
+    TilesOrder,
+};
+pub use places::{Files, Given, PartPlaces, Place, Places, TwoPlaces};
 pub use readings::order;

@@ -68,73 +68,102 @@ pub enum Subject {
     },
 }
 
+/// A check of a puzzle, a list and a certificate.
+#[derive(Drop)]
+pub struct CheckOrder {
+    pub given: Given,
+    pub workers: Workers,
+    pub forks: Forks,
+    /// Whether it says meanwhile how far it is.
+    pub progress: bool,
+    /// Whether it says what has to be changed in a text that has a fault, even where no terminal shows it.
+    pub hints: bool,
+}
+
+/// A search for all arrangements of the puzzle in its file. It writes the files of their list and of a certificate.
+#[derive(Drop)]
+pub struct SolveOrder {
+    pub files: Files,
+    pub depth: Depth,
+    pub fuel: Fuel,
+    pub workers: Workers,
+    /// Which symmetries the certificate names.
+    pub symmetries: Suggested,
+    /// Whether it says meanwhile how far it is.
+    pub progress: bool,
+    /// Whether it says what has to be changed in a text that has a fault, even where no terminal shows it.
+    pub hints: bool,
+}
+
+/// A check of a puzzle, a list and a certificate, which prints arrangements.
+#[derive(Drop)]
+pub struct ExpandOrder {
+    pub given: Given,
+    /// Whether it prints only one arrangement of each orbit (arrangements that the certificate's symmetries take into
+    /// each other), and not all.
+    pub orbits: bool,
+    /// Whether it says what has to be changed in a text that has a fault, even where no terminal shows it.
+    pub hints: bool,
+}
+
+/// A search that counts arrangements of the puzzle at a place.
+#[derive(Drop)]
+pub struct CensusOrder {
+    pub puzzle: Place,
+    pub extent: Extent,
+    pub workers: Workers,
+    /// Whether it says meanwhile how far it is.
+    pub progress: bool,
+}
+
+/// A picture of the empty board of a puzzle and its tiles, or of listed arrangements.
+#[derive(Drop)]
+pub struct DrawOrder {
+    pub subject: Subject,
+    /// How many arrangements a sheet has, from the one of the subject on; 0 for that one alone, large.
+    pub first: Drawn,
+    /// Whether each cell has the number of its tile.
+    pub numbers: bool,
+}
+
+/// A list of the tiles with this many sides and colours.
+#[derive(Drop)]
+pub struct TilesOrder {
+    pub sides: Sides,
+    pub colours: Colours,
+    /// Whether they are printed as lines of a puzzle's text, and not by their words only.
+    pub lines: bool,
+}
+
 /// What the words of the command line ask for.
 #[derive(Drop)]
 pub enum Order {
-    /// Check the puzzle, list and certificate that standard input has, one after the other.
+    /// Check the puzzle, list and certificate that standard input has, one after the other. The program without a
+    /// command orders this.
     Joined,
-    /// Check the documents in these files. With `progress`, say meanwhile how far it is. With `hints`, say what has to
-    /// be changed in a text that has a fault, even where no terminal shows it.
-    Check {
-        files: Files,
-        workers: Workers,
-        forks: Forks,
-        progress: bool,
-        hints: bool,
-    },
+    /// Check the documents that are given in this way.
+    Check(CheckOrder),
     /// Check the documents that are given in this way, and say why they are refused.
     Explain(Given),
     /// Say whether the text of the puzzle at this place has a fault.
     ExplainPuzzle(Place),
-    /// Search for all arrangements of the puzzle in its file, and write the files of their list and of a certificate,
-    /// which names the symmetries that are asked for. With `keep`, leave the files that are there until both are
-    /// written. With `progress`, say meanwhile how far it is. With `hints`, say what has to be changed in a text that
-    /// has a fault, even where no terminal shows it.
-    Solve {
-        files: Files,
-        depth: Depth,
-        fuel: Fuel,
-        workers: Workers,
-        symmetries: Suggested,
-        keep: bool,
-        progress: bool,
-        hints: bool,
-    },
-    /// Check the documents that are given in this way, joined or all in files, and print all arrangements; with
-    /// `orbits`, one of each orbit (arrangements that the certificate's symmetries take into each other) only. With
-    /// `hints`, say what has to be changed in a text that has a fault, even where no terminal shows it.
-    Expand {
-        given: Given,
-        orbits: bool,
-        hints: bool,
-    },
+    /// Search for all arrangements of a puzzle, and write their list and a certificate. The files that are there stay
+    /// until both are written.
+    Solve(SolveOrder),
+    /// Check documents, and print all arrangements, or one of each orbit.
+    Expand(ExpandOrder),
     /// Check the documents that are given in this way, and count all arrangements.
     Count(Given),
-    /// Count arrangements of the puzzle at this place by a search.
-    Census {
-        puzzle: Place,
-        extent: Extent,
-        workers: Workers,
-        progress: bool,
-    },
+    /// Count arrangements of a puzzle by a search.
+    Census(CensusOrder),
     /// Add up the counts of all parts of a search, by the lines at these places.
     Total(PartPlaces),
     /// Draw the empty board of a puzzle, or a listed arrangement, as text.
     Show(Subject),
-    /// Draw, as a picture, the empty board of a puzzle and its tiles, or a listed arrangement, or a sheet of `first`
-    /// arrangements from that one on, where `first` isn't 0. With `numbers`, write each tile's number on its cell.
-    Draw {
-        subject: Subject,
-        first: Drawn,
-        numbers: bool,
-    },
+    /// Draw a puzzle, or listed arrangements, as a picture.
+    Draw(DrawOrder),
     /// Print symmetries of the puzzle at this place.
     Symmetries(Place),
-    /// List the tiles with this many sides and colours. With `lines`, print them as lines of a puzzle's text, otherwise
-    /// only their words.
-    Tiles {
-        sides: Sides,
-        colours: Colours,
-        lines: bool,
-    },
+    /// List tiles.
+    Tiles(TilesOrder),
 }

@@ -1,8 +1,7 @@
 //! Where documents are: in files, or on standard input.
 
-ghost use Rattle.std.specs.Prelude.{◌≡◌, MatchOption};
-ghost use Rattle.command_words.specs.Places.{AreTwoOnInput, certificate_place, list_of_two, list_place, puzzle_of_two};
-ghost use Rattle.command_words.specs.Places.{puzzle_place};
+ghost use Rattle.std.specs.Prelude.{◌≡◌, ◌↔◌, IsTrue, MatchOption};
+ghost use Rattle.command_words.specs.Places.{AreBothOnInput, AreTwoOnInput};
 ghost use Rattle.command_words.specs.declared.places.Place.TheVariants.{Input};
 
 /// Three files, by their names.
@@ -22,6 +21,15 @@ pub enum Place {
     File(String),
 }
 
+impl Place {
+    /// Whether the document is on standard input.
+    pub fn is_input(&self) -> bool
+        ensures { IsTrue result ↔ (self.now ≡ Input) }
+    {
+        matches!(self, Place::Input)
+    }
+}
+
 /// Where the lines of counted parts are.
 #[derive(Drop)]
 pub enum PartPlaces {
@@ -33,71 +41,51 @@ pub enum PartPlaces {
 
 /// Where a puzzle and a list are: at most one of them on standard input.
 #[derive(Drop)]
-pub enum TwoPlaces {
-    /// Both in these files.
-    Files { puzzle: String, list: String },
-    /// The puzzle on standard input, and the list in this file.
-    PuzzleOnInput { list: String },
-    /// The list on standard input, and the puzzle in this file.
-    ListOnInput { puzzle: String },
+pub struct TwoPlaces {
+    pub puzzle: Place,
+    pub list: Place,
+    pub ghost once: { AreBothOnInput puzzle list → ⊥ },
 }
 
 impl TwoPlaces {
     // A puzzle and a list at these places; `None` where both are standard input.
     pub(crate) fn new(puzzle: Place, list: Place) -> Option<TwoPlaces>
-        ensures { MatchOption result ((puzzle ≡ Input) × (list ≡ Input))
-            (λ places. (puzzle_of_two places ≡ puzzle) × (list_of_two places ≡ list)) }
+        ensures { MatchOption result (AreBothOnInput puzzle list)
+            (λ places. (places.puzzle ≡ puzzle) × (places.list ≡ list)) }
     {
-        match (puzzle, list) {
-            (Place::File(puzzle), Place::File(list)) => Some(TwoPlaces::Files { puzzle, list }),
-            (Place::Input, Place::File(list)) => Some(TwoPlaces::PuzzleOnInput { list }),
-            (Place::File(puzzle), Place::Input) => Some(TwoPlaces::ListOnInput { puzzle }),
-            (Place::Input, Place::Input) => None,
+        if puzzle.is_input() && list.is_input() {
+            return None;
         }
+        Some(TwoPlaces { puzzle, list })
     }
 }
 
 /// Where a puzzle, a list and a certificate are: at most one of them on standard input.
 #[derive(Drop)]
-pub enum ThreePlaces {
-    /// All in these files.
-    Files(Files),
-    /// The puzzle on standard input, and the others in these files.
-    PuzzleOnInput { list: String, certificate: String },
-    /// The list on standard input, and the others in these files.
-    ListOnInput { puzzle: String, certificate: String },
-    /// The certificate on standard input, and the others in these files.
-    CertificateOnInput { puzzle: String, list: String },
+pub struct Places {
+    pub puzzle: Place,
+    pub list: Place,
+    pub certificate: Place,
+    pub ghost once: { AreTwoOnInput puzzle list certificate → ⊥ },
 }
 
-impl ThreePlaces {
+impl Places {
     // A puzzle, a list and a certificate at these places; `None` where two of them are standard input.
-    pub(crate) fn new(puzzle: Place, list: Place, certificate: Place) -> Option<ThreePlaces>
-        ensures { MatchOption result (AreTwoOnInput puzzle list certificate) (λ places. (puzzle_place places ≡ puzzle)
-            × (list_place places ≡ list) × (certificate_place places ≡ certificate)) }
+    pub(crate) fn new(puzzle: Place, list: Place, certificate: Place) -> Option<Places>
+        ensures { MatchOption result (AreTwoOnInput puzzle list certificate) (λ places. (places.puzzle ≡ puzzle)
+            × (places.list ≡ list) × (places.certificate ≡ certificate)) }
     {
-        match (puzzle, list, certificate) {
-            (Place::File(puzzle), Place::File(list), Place::File(certificate)) => {
-                Some(ThreePlaces::Files(Files {
-                    puzzle,
-                    list,
-                    certificate,
-                }))
-            }
-            (Place::Input, Place::File(list), Place::File(certificate)) => {
-                Some(ThreePlaces::PuzzleOnInput { list, certificate })
-            }
-            (Place::File(puzzle), Place::Input, Place::File(certificate)) => {
-                Some(ThreePlaces::ListOnInput {
-                    puzzle,
-                    certificate,
-                })
-            }
-            (Place::File(puzzle), Place::File(list), Place::Input) => {
-                Some(ThreePlaces::CertificateOnInput { puzzle, list })
-            }
-            _ => None,
+        if puzzle.is_input() && list.is_input()
+            || puzzle.is_input() && certificate.is_input()
+            || list.is_input() && certificate.is_input()
+        {
+            return None;
         }
+        Some(Places {
+            puzzle,
+            list,
+            certificate,
+        })
     }
 }
 
@@ -107,5 +95,5 @@ pub enum Given {
     /// Joined on standard input, one after the other.
     Joined,
     /// Each by itself, at these places.
-    Apart(ThreePlaces),
+    Apart(Places),
 }

@@ -1,15 +1,15 @@
 //! Reads words as orders.
 
-ghost use Rattle.std.specs.Prelude.{◌≡◌, ◌↔◌, ◌<◌, ◌^◌, ℕ, Contains, Some, codes, map, IfOk, IfErr, IsTrue, MatchOption};
+ghost use Rattle.std.specs.Prelude.{◌≡◌, ◌↔◌, ◌<◌, ◌^◌, ℕ, List, Contains, Some, codes, map, IfOk, IfErr, IsTrue, MatchOption};
 ghost use Rattle.std.specs.String.{string_bytes};
 ghost use Rattle.std.specs.Str.Parse.{digits_value, without_leading_plus};
-ghost use Rattle.clap.specs.Words.{IsUnsignedIn, first_of, found_of, kind_of, rows_of};
+ghost use Rattle.clap.specs.Words.{IsUnsignedIn, Row, first_of, found_of, kind_of, rows_of};
 ghost use Rattle.clap.specs.declared.error.kind.ErrorKind.TheVariants.{ArgumentConflict};
 ghost use Rattle.command_words.specs.Places.{input_name};
 ghost use Rattle.command_words.specs.Orders.{AreMatchesOf, AreNamedParts, AreWritable, AskFor, HasFiles, HasFlag, HasNumber, HasText, IsExtent, IsFlagged};
-ghost use Rattle.command_words.specs.Orders.{IsGiven, IsGivenInFiles, IsMisfit, IsOrder, IsOrderOf, IsPlace, IsRefused};
+ghost use Rattle.command_words.specs.Orders.{IsGiven, IsMisfit, IsOrder, IsOrderOf, IsPlace, IsRefused};
 ghost use Rattle.command_words.specs.Orders.{IsSubject, MayHaveNumber, NameFiles, TellsOfMisfit, number_of};
-ghost use Rattle.command_words.specs.Asked.{AreAskedFor, IsAsked, MayStandAt};
+ghost use Rattle.command_words.specs.Asked.{AreAskedFor, IsAsked, IsOfThree, MayStandAt};
 ghost use Rattle.command_words.specs.Parts.{IsPartsText, SpellsRange};
 ghost use Rattle.command_words.specs.declared.orders.Extent.{Extent};
 ghost use Rattle.command_words.specs.declared.orders.Parts.{Parts};
@@ -19,13 +19,16 @@ ghost use Rattle.command_words.specs.declared.places.PartPlaces.{PartPlaces};
 ghost use Rattle.match_symmetry.specs.declared.choices.Suggested.{Suggested};
 
 use crate::commands::{
-    count as count_command, draw as draw_command, expand as expand_command,
+    check as check_command, count as count_command, draw as draw_command, expand as expand_command,
     explain as explain_command, program, show as show_command, solve as solve_command,
     total as total_command,
 };
 use crate::faults::WordsFault;
-use crate::orders::{Extent, Order, Parts, Subject};
-use crate::places::{Files, Given, PartPlaces, Place, ThreePlaces, TwoPlaces};
+use crate::orders::{
+    CensusOrder, CheckOrder, DrawOrder, ExpandOrder, Extent, Order, Parts, SolveOrder, Subject,
+    TilesOrder,
+};
+use crate::places::{Files, Given, PartPlaces, Place, Places, TwoPlaces};
 use clap::error::ErrorKind;
 use clap::{ArgMatches, Command};
 use match_limits::Within;
@@ -39,9 +42,12 @@ const READ_TWICE: &str =
 // The message for words that name standard input together with files of counted parts.
 const READ_ALONE: &str = "- is standard input, and stands alone: name files, or - and nothing else";
 
-// The message for words that name only some of three documents.
-const NO_CERTIFICATE: &str =
-    "a list stands with its certificate: PUZZLE LIST CERTIFICATE, or PUZZLE alone";
+// The message for a list without a certificate.
+const NO_CERTIFICATE: &str = "a list stands with its certificate: PUZZLE LIST CERTIFICATE";
+
+// The message for a puzzle alone, where all three documents are wanted.
+const NO_LIST: &str =
+    "a puzzle stands with its list and certificate: PUZZLE LIST CERTIFICATE, or none of them where standard input has them joined";
 
 // The message for a solve whose list or certificate is named like standard input.
 const NOT_WRITTEN: &str =
@@ -138,7 +144,7 @@ fn puzzle_place(alloc: Global, matches: &ArgMatches<'_>) -> Result<Place, AllocE
     Ok(place)
 }
 
-// What the words of `explain` or `count` ask for.
+// What the words of a command about documents ask for.
 #[derive(Drop)]
 enum Asked {
     // Something of three documents.
@@ -149,7 +155,7 @@ enum Asked {
     Nothing(&'static str),
 }
 
-// What the matches of `explain` or `count` ask for.
+// What the matches of a command about documents ask for.
 fn read_asked(alloc: Global, matches: &ArgMatches<'_>) -> Result<Asked, AllocError>
     ensures { IfOk result (IsAsked (rows_of (found_of matches.now))) }
 {
@@ -167,7 +173,7 @@ fn asked_for(puzzle: Option<Place>, list: Option<Place>, certificate: Option<Pla
         (None, None, None) => Asked::Given(Given::Joined),
         (Some(puzzle), None, None) => Asked::Puzzle(puzzle),
         (Some(puzzle), Some(list), Some(certificate)) => {
-            match ThreePlaces::new(puzzle, list, certificate) {
+            match Places::new(puzzle, list, certificate) {
                 Some(places) => Asked::Given(Given::Apart(places)),
                 None => Asked::Nothing(READ_TWICE),
             }
@@ -177,32 +183,17 @@ fn asked_for(puzzle: Option<Place>, list: Option<Place>, certificate: Option<Pla
     }
 }
 
-// Three documents in files, or joined where none is named; `None` where only some are named.
-fn given_in_files(alloc: Global, matches: &ArgMatches<'_>) -> Result<Option<Given>, AllocError>
-    ensures { IfOk result (λ given. MatchOption given
-        ((any : Given) → IsGivenInFiles (rows_of (found_of matches.now)) any → ⊥)
-        (IsGivenInFiles (rows_of (found_of matches.now)))) }
+// Three documents, joined where none is named; an `Err` says why the words name others.
+fn three_documents(
+    alloc: Global,
+    matches: &ArgMatches<'_>,
+) -> Result<Result<Given, &'static str>, AllocError>
+    ensures { IfOk result (IsOfThree (rows_of (found_of matches.now))) }
 {
-    let puzzle = matches.get_str("PUZZLE");
-    let list = matches.get_str("LIST");
-    let certificate = matches.get_str("CERTIFICATE");
-    match (puzzle, list, certificate) {
-        (None, None, None) => Ok(Some(Given::Joined)),
-        (Some(puzzle), Some(list), Some(certificate)) => {
-            let puzzle = String::from_str(alloc, puzzle)?;
-            let list = String::from_str(alloc, list)?;
-            let certificate = String::from_str(alloc, certificate)?;
-            let files = Files {
-                puzzle,
-                list,
-                certificate,
-            };
-            Ok(Some(Given::Apart(ThreePlaces::Files(files))))
-        }
-        (Some(_), None, _) => Ok(None),
-        (Some(_), Some(_), None) => Ok(None),
-        (None, Some(_), _) => Ok(None),
-        (None, None, Some(_)) => Ok(None),
+    match read_asked(alloc, matches)? {
+        Asked::Given(given) => Ok(Ok(given)),
+        Asked::Puzzle(_) => Ok(Err(NO_LIST)),
+        Asked::Nothing(reason) => Ok(Err(reason)),
     }
 }
 
@@ -251,18 +242,21 @@ fn check(alloc: Global, matches: &ArgMatches<'_>) -> Result<Order, WordsFault>
     ensures order { IfOk result (IsOrderOf (Some (codes "check", rows_of (found_of matches.now)))) }
     ensures refused { IfErr result (IsMisfit (Some (codes "check", rows_of (found_of matches.now)))) }
 {
-    let files = files(alloc, matches)?;
+    let given = match three_documents(alloc, matches)? {
+        Ok(given) => given,
+        Err(reason) => return Err(misfit(check_command(alloc), "edgematch check", reason)),
+    };
     let workers = number(matches, "workers");
     let forks = number(matches, "forks");
     let progress = flag(matches, "progress");
     let hints = flag(matches, "hints");
-    Ok(Order::Check {
-        files,
+    Ok(Order::Check(CheckOrder {
+        given,
         workers,
         forks,
         progress,
         hints,
-    })
+    }))
 }
 
 // Which symmetries the matches of `solve` ask for.
@@ -295,19 +289,17 @@ fn solve(alloc: Global, matches: &ArgMatches<'_>) -> Result<Order, WordsFault>
     let depth = number(matches, "depth");
     let fuel = number(matches, "fuel");
     let workers = number(matches, "workers");
-    let keep = flag(matches, "keep");
     let progress = flag(matches, "progress");
     let hints = flag(matches, "hints");
-    Ok(Order::Solve {
+    Ok(Order::Solve(SolveOrder {
         files,
         depth,
         fuel,
         workers,
         symmetries,
-        keep,
         progress,
         hints,
-    })
+    }))
 }
 
 fn expand(alloc: Global, matches: &ArgMatches<'_>) -> Result<Order, WordsFault>
@@ -315,20 +307,17 @@ fn expand(alloc: Global, matches: &ArgMatches<'_>) -> Result<Order, WordsFault>
     ensures order { IfOk result (IsOrderOf (Some (codes "expand", rows_of (found_of matches.now)))) }
     ensures refused { IfErr result (IsMisfit (Some (codes "expand", rows_of (found_of matches.now)))) }
 {
-    let Some(given) = given_in_files(alloc, matches)? else {
-        return Err(misfit(
-            expand_command(alloc),
-            "edgematch expand",
-            "three files are named, PUZZLE LIST CERTIFICATE, or none",
-        ));
+    let given = match three_documents(alloc, matches)? {
+        Ok(given) => given,
+        Err(reason) => return Err(misfit(expand_command(alloc), "edgematch expand", reason)),
     };
     let orbits = flag(matches, "orbits");
     let hints = flag(matches, "hints");
-    Ok(Order::Expand {
+    Ok(Order::Expand(ExpandOrder {
         given,
         orbits,
         hints,
-    })
+    }))
 }
 
 // Explains three documents, or a puzzle where it is alone.
@@ -435,32 +424,26 @@ fn count(alloc: Global, matches: &ArgMatches<'_>) -> Result<Order, WordsFault>
         ));
     };
     match read_asked(alloc, matches)? {
-        Asked::Given(given) => count_given(alloc, matches, given, extent),
+        Asked::Given(given) => count_given(alloc, given, extent),
         Asked::Puzzle(puzzle) => {
             let workers = number(matches, "workers");
             let progress = flag(matches, "progress");
-            Ok(Order::Census {
+            Ok(Order::Census(CensusOrder {
                 puzzle,
                 extent,
                 workers,
                 progress,
-            })
+            }))
         }
         Asked::Nothing(reason) => Err(misfit(count_command(alloc), "edgematch count", reason)),
     }
 }
 
 // Counts by these documents.
-fn count_given(
-    alloc: Global,
-    _matches: &ArgMatches<'_>,
-    given: Given,
-    extent: Extent,
-) -> Result<Order, WordsFault>
-    requires given { IsGiven (rows_of (found_of _matches.now)) given }
-    requires extent { IsExtent (rows_of (found_of _matches.now)) extent }
-    ensures order { IfOk result (IsOrderOf (Some (codes "count", rows_of (found_of _matches.now)))) }
-    ensures refused { IfErr result (IsMisfit (Some (codes "count", rows_of (found_of _matches.now)))) }
+fn count_given(alloc: Global, given: Given, extent: Extent) -> Result<Order, WordsFault>
+    ensures { (rows : List Row) → IsGiven rows given → IsExtent rows extent
+        → IfOk result (IsOrderOf (Some (codes "count", rows)))
+        × IfErr result (IsMisfit (Some (codes "count", rows))) }
 {
     let Extent::All = extent else {
         return Err(misfit(
@@ -541,11 +524,11 @@ fn draw(alloc: Global, matches: &ArgMatches<'_>) -> Result<Order, WordsFault>
     };
     let first = number(matches, "first");
     let numbers = flag(matches, "numbers");
-    Ok(Order::Draw {
+    Ok(Order::Draw(DrawOrder {
         subject,
         first,
         numbers,
-    })
+    }))
 }
 
 fn symmetries(alloc: Global, matches: &ArgMatches<'_>) -> Result<Order, WordsFault>
@@ -563,11 +546,11 @@ fn tiles(matches: &ArgMatches<'_>) -> Order
     let sides = number(matches, "SIDES");
     let colours = number(matches, "COLOURS");
     let lines = flag(matches, "lines");
-    Order::Tiles {
+    Order::Tiles(TilesOrder {
         sides,
         colours,
         lines,
-    }
+    })
 }
 
 /// Reads the words after the program's name as an order.
@@ -575,7 +558,7 @@ fn tiles(matches: &ArgMatches<'_>) -> Order
 /// Words that name no command order the same as no words. `Words` comes where they are wrong or ask for help, as `clap`
 /// reads them by the program's commands, or where they don't go together. Then the error says why:
 ///
-/// - `count`, `explain` or `expand` has only some of three documents
+/// - only some of three documents are named
 /// - `count` has three documents together with options of a search
 /// - `solve` asks for symmetries by a word other than the two
 /// - two documents are to be read from standard input

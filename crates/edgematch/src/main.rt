@@ -3,9 +3,7 @@
 
 ghost use Rattle.std.specs.Prelude.{◌≤◌, IfSome, length};
 
-use command_orders::{
-    Exit, Input, Output, RunFault, Streams, System, SystemLimits, run_words, stopped,
-};
+use command_orders::{Exit, RunFault, Streams, SystemLimits, run_words, stopped};
 use std::env::{Env, FillError};
 use std::fs::{self, OpenOptions};
 use std::io::{ErrorKind, IsTerminal};
@@ -16,6 +14,7 @@ use std::sync::Wait;
 use std::thread::{Builder, Threads};
 use std::time::Clock;
 use std::{env, io, str};
+use system_files::{Input, Output, System};
 
 // A stack that is large enough, in bytes: 256 cells take a fifth of it. Threads get as much as the limit on stacks
 // says.

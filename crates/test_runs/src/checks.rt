@@ -55,7 +55,7 @@ pub fn check_over<R: Threads + Sync>(
     )
 }
 
-// Whether it is told that the reader of this document fails after so many bytes, and nothing is written then.
+// Whether a check says that the reader of this document failed, which fails after `place` bytes, and writes nothing.
 fn is_told<R: Threads + Sync>(
     rt: &R,
     alloc: Global,
@@ -74,7 +74,7 @@ fn is_told<R: Threads + Sync>(
     is_as_wanted(outcome, Err(RunFault::Read(document)), &writer, b"")
 }
 
-// Asserts that for each of so many bytes, and in place of the end.
+// Asserts that a check says so, and writes nothing, where a reader fails at any of `len` bytes, or at the end.
 fn assert_each_failure_is_told<R: Threads + Sync + Abort>(
     rt: &R,
     alloc: Global,

@@ -62,7 +62,8 @@ fn is_as_wanted(
     }
 }
 
-// Whether that comes of sources that fail after so many bytes, of which so many are taken.
+// Whether reading sources that fail after these numbers of bytes fails at this document, or at none, and takes these
+// numbers of bytes.
 fn reads(
     alloc: Global,
     fails_after: [usize; 3],
@@ -153,7 +154,8 @@ fn is_written_again(alloc: Global, list: &MadeText) -> bool {
     is_done && again.written() == b"list".as_slice()
 }
 
-// Whether sinks that fail after so many bytes take all three texts or don't, and whether they have these fronts then.
+// Whether sinks that fail after these numbers of bytes take all three texts or don't, as `is_done` says, and whether
+// they have these fronts then.
 fn writes(
     alloc: Global,
     fails_after: [usize; 3],

@@ -18,7 +18,7 @@ pub struct FakeSources<'a> {
 }
 
 impl<'a> FakeSources<'a> {
-    /// Sources that move at most so many bytes a call, and fail after so many each.
+    /// Sources that move at most `most` bytes a call; each fails after its number of bytes in `fails_after`.
     pub fn new(
         alloc: Global,
         documents: &Documents<'a>,
@@ -75,7 +75,7 @@ pub struct FakeSinks {
 }
 
 impl FakeSinks {
-    /// Sinks that move at most so many bytes a call, and fail after so many each.
+    /// Sinks that move at most `most` bytes a call; each fails after its number of bytes in `fails_after`.
     pub fn new(alloc: Global, most: usize, fails_after: [usize; 3]) -> FakeSinks {
         FakeSinks {
             list: Fake::new(alloc, b"", most, fails_after[0]),

@@ -10,7 +10,7 @@ use crate::outcomes::with_memory;
 use byte_streams::Fake;
 use command_orders::{Exit, HintedFault, Streams, run_order};
 use command_runs::RunFault;
-use command_words::{Files, Order};
+use command_words::{CheckOrder, Files, Order};
 use match_limits::{Forks, Workers};
 use solver::SolveFault;
 use std::alloc::{AllocError, Global};
@@ -51,13 +51,13 @@ fn exit_of<R: Threads + Wait + Sync + RandomSource + Clock + Eprint>(
 {
     let mut system = *held;
     let files = files_of(held.alloc, "p", "l", "c")?;
-    let order = Order::Check {
+    let order = Order::Check(CheckOrder {
         files,
         workers: Workers::new(2),
         forks: Forks::new(1),
         progress: false,
         hints: false,
-    };
+    });
     let exit = run_order(rt, held.alloc, &order, &mut system, streams)?;
     Ok(exit)
 }
@@ -87,7 +87,7 @@ fn exit_with<R: Threads + Wait + Sync + RandomSource + Clock + Eprint>(
     exit_of(rt, &held, &mut streams)
 }
 
-// The same, without what is told beside a fault.
+// How a run ended, without the hint beside a fault.
 fn without_hint(ended: Result<Exit, HintedFault>) -> Result<Exit, RunFault> {
     match ended {
         Ok(exit) => Ok(exit),

@@ -36,8 +36,8 @@ fn solve_over<R: Threads + Wait + Sync>(
     )
 }
 
-// Whether a solve stops with this fault whose reader fails after so many bytes, and its writers after so many each, and
-// whether these texts were written then.
+// Whether a solve stops with this fault and wrote these texts, where its reader fails after `read` bytes, and each of
+// its writers after its number of bytes in `written`.
 fn stops<R: Threads + Wait + Sync>(
     rt: &R,
     alloc: Global,
@@ -88,7 +88,8 @@ fn is_written(outcome: Result<Status, RunFault>, writer: &Fake<'_>, text: &[u8])
     }
 }
 
-// Whether a check does so, of these documents, over readers and a writer that move at most so many bytes a call.
+// Whether a check of these documents writes that the list is complete, or nothing where it wants memory, over readers
+// and a writer that move at most `most` bytes a call.
 fn checks<R: Threads + Sync>(
     rt: &R,
     alloc: Global,

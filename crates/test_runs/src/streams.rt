@@ -11,7 +11,7 @@ use system_files::{Input, Output};
 // 64 bytes, and one more.
 const BYTES: &[u8; 65] = b"0123456789abcdef0123456789abcdef0123456789abcdef0123456789abcdef\n";
 
-// What is wrong with reading this to its end, at most so many bytes of it.
+// What is wrong with reading this to its end, where it may have at most `bound` bytes.
 fn fault_of(
     alloc: Global,
     reader: &mut Fake<'_>,
@@ -62,7 +62,8 @@ fn reads_up_to_an_error(rt: HostRuntime) -> Result<(), Fail> {
     Ok(())
 }
 
-// Whether a writer with so many bytes a call that fails after so many has this front of the line, and so many errors.
+// Whether a write ends so, where the writer takes at most `most` bytes a call and fails after `fails_after`, and
+// whether the writer has this front of the line then, and `errors` errors.
 fn writes(
     alloc: Global,
     (most, fails_after): (usize, usize),

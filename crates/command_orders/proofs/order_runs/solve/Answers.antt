@@ -22,14 +22,14 @@ use Rattle.command_orders.proofs.order_runs.solve.Goals.{After-told-told}
 use Rattle.command_orders.proofs.order_runs.solve.Goals as goal
 
 -- the puzzle's file, as it was opened, and as it was read
-abbrev file : (g : _) (c : After-told-told g) → Opened g.S.FileSystem g.S.Reader.Source c.args.system.now (string_bytes c.args.order.now.files.now.puzzle)
+abbrev file : (g : _) (c : After-told-told g) → Opened g.S.FileSystem g.S.Reader.Source c.args.system.now (string_bytes c.args.order.now.files.puzzle)
 file g c =
-    opened_as g.S.FileSystem g.S.Reader.Source c.args.system.now (string_bytes c.args.order.now.files.now.puzzle) c.deref.result.now c.in_ok-puzzle.puzzle c.run_solve_watched-solved.new.inputs.source.now
+    opened_as g.S.FileSystem g.S.Reader.Source c.args.system.now (string_bytes c.args.order.now.files.puzzle) c.deref.result.now c.in_ok-puzzle.puzzle c.run_solve_watched-solved.new.inputs.source.now
     c.deref.ensures c.in_ok-puzzle.ensures.opened
 
 -- what came of the puzzle's file, and where the texts went
 abbrev from : (g : _) (c : After-told-told g) → Origin (List ℕ)
-from g c = one_source documents.Puzzle (read_from g.S.FileSystem g.S.Reader.Source c.args.system.now (string_bytes c.args.order.now.files.now.puzzle) (file g c))
+from g c = one_source documents.Puzzle (read_from g.S.FileSystem g.S.Reader.Source c.args.system.now (string_bytes c.args.order.now.files.puzzle) (file g c))
 
 abbrev list_to : (g : _) (c : After-told-told g) → Writing
 list_to g c = writing_of g.S.Writer.Sink c.in_ok-made.made.list c.run_solve_watched-solved.new.outputs.list.now
@@ -45,28 +45,31 @@ to g c = three_sinks (list_to g c) (certificate_to g c) (report_to g c)
 
 -- the run came to this, where what is told of it is the same
 run_as : (g : _) (c : After-told-told g) (ended : Result (Unit {0}) RunFault) → unhinted c.told-told.result ≡ ended
-    → Runs (from g c) (SolveGivesOf c.args.order.now.plan.symmetries c.args.order.now.plan.workers) SolveFails (to g c) ended
+    → Runs (from g c) (SolveGivesOf c.args.order.now.symmetries c.args.order.now.workers) SolveFails (to g c) ended
 run_as g c ended is =
-    subst (Runs (from g c) (SolveGivesOf c.args.order.now.plan.symmetries c.args.order.now.plan.workers) SolveFails (to g c)) (sym c.told-told.ensures ∙ is)
-    c.run_solve_watched-solved.ensures.run
+    let solved = unhinted c.run_solve_watched-solved.result in
+    subst (Runs (from g c) (SolveGivesOf c.args.order.now.symmetries c.args.order.now.workers) SolveFails (to g c)) (sym c.told-told.ensures ∙ is)
+    (subst (λ s. Runs (from g c) (SolveGivesOf s c.args.order.now.workers) SolveFails (to g c) solved) c.search_plan.ensures.symmetries
+    (subst (λ w. Runs (from g c) (SolveGivesOf c.search_plan.result.symmetries w) SolveFails (to g c) solved) c.search_plan.ensures.workers
+    c.run_solve_watched-solved.ensures.run))
 
 pub returns-in_err-are_apart : goal.returns-in_err-are_apart
 returns-in_err-are_apart g c =
     let w = err_from_is_err_and c.from_residual-in_err-are_apart.result c.from_residual-in_err-are_apart.ensures.1 in
-    let name = string_bytes c.args.order.now.files.now.puzzle in
+    let name = string_bytes c.args.order.now.files.puzzle in
     let file = opened_as g.S.FileSystem g.S.Reader.Source c.args.system.now name c.deref.result.now c.in_ok-puzzle.puzzle c.in_ok-puzzle.puzzle c.deref.ensures c.in_ok-puzzle.ensures.opened in
     rw (w.1, w.2) (inl (unread g.S.FileSystem g.S.Reader.Source c.args.system.now name file refl, (([], inl refl, refl), refl)))
 
 pub returns-in_err-made : goal.returns-in_err-made
 returns-in_err-made g c =
     let w = err_from_is_err_and c.from_residual-in_err-made.result c.from_residual-in_err-made.ensures.1 in
-    let name = string_bytes c.args.order.now.files.now.puzzle in
+    let name = string_bytes c.args.order.now.files.puzzle in
     let file = opened_as g.S.FileSystem g.S.Reader.Source c.args.system.now name c.deref.result.now c.in_ok-puzzle.puzzle c.in_ok-puzzle.puzzle c.deref.ensures c.in_ok-puzzle.ensures.opened in
     let report = writing_of g.W.Sink c.args.output.now c.args.output.now in
-    let to = solved_files c.args.order.now.files.now g.S.FileSystem.does g.S.FileSystem.leads c.args.system.now c.make_files.new.system report in
-    let put = PutsAll c.args.order.now.files.now g.S.FileSystem.does c.args.system.now c.make_files.new.system report in
+    let to = solved_files c.args.order.now.files g.S.FileSystem.does g.S.FileSystem.leads c.args.system.now c.make_files.new.system report in
+    let put = PutsAll c.args.order.now.files g.S.FileSystem.does c.args.system.now c.make_files.new.system report in
     let undone = named (λ l k. Undid l k g.S.FileSystem.does c.args.system.now c.make_files.new.system) _ _ _ _ c.deref-2.ensures c.deref-3.ensures c.in_err-made.ensures.undone in
-    rw (w.1, w.2) (not_begun g.S.FileSystem g.S.Reader.Source c.args.system.now name file refl c.args.order.now.plan.symmetries c.args.order.now.plan.workers to put c.in_err-made.field-0.0.fault c.in_err-made.ensures.fault (undone, refl))
+    rw (w.1, w.2) (not_begun g.S.FileSystem g.S.Reader.Source c.args.system.now name file refl c.args.order.now.symmetries c.args.order.now.workers to put c.in_err-made.field-0.0.fault c.in_err-made.ensures.fault (undone, refl))
 
 -- the two files took the texts that were made
 written : (g : _) (c : After-told-told g) (texts : Products) → (to g c).Took texts
@@ -79,7 +82,7 @@ written g c texts took =
 pub settle-requires : goal.settle-requires
 settle-requires g c =
     let at = (goal.at.settle-requires g c).After-told-told in
-    after_run (from g at) (SolveGivesOf c.args.order.now.plan.symmetries c.args.order.now.plan.workers) SolveFails (to g at) c.told-told.result
+    after_run (from g at) (SolveGivesOf c.args.order.now.symmetries c.args.order.now.workers) SolveFails (to g at) c.told-told.result
     (run_as g at (unhinted c.told-told.result) refl) (λ texts took. (texts, written g at texts took))
 
 pub returns-in-Err-Stopped : goal.returns-in-Err-Stopped
@@ -87,7 +90,7 @@ returns-in-Err-Stopped g c =
     let at = (goal.at.returns-in-Err-Stopped g c).After-told-told in
     let does = g.S.FileSystem.does in
     let leads = g.S.FileSystem.leads in
-    let files = c.args.order.now.files.now in
+    let files = c.args.order.now.files in
     let names : ProductNames = record { list = c.deref-2.result; certificate = c.deref-3.result } in
     let old = c.args.system.now in
     let now = c.make_files.new.system in
@@ -98,8 +101,8 @@ returns-in-Err-Stopped g c =
     let undone = named (λ l k. Undid l k does old new) _ _ _ _ c.deref-2.ensures c.deref-3.ensures
     (undone does names.list.now names.certificate.now old now new c.in_ok-made.ensures.made.1 stopped.1) in
     let left : c.output-1.given.0 ≡ c.run_solve_watched-solved.new.outputs.report.now = search rules in
-    subst (λ o. SolveOf c.args.order.now.plan.symmetries c.args.order.now.plan.workers (one_file g.S.FileSystem g.S.Reader.Source old (string_bytes files.puzzle)) (solved_files files does leads old new (writing_of g.W.Sink c.args.output.now o)) (PutsAll files does old new (writing_of g.W.Sink c.args.output.now o)) (Err hinted.fault)) (sym left)
-    (solve_stopped g.S.FileSystem g.S.Reader.Source old (string_bytes files.puzzle) (file g at) c.args.order.now.plan.symmetries c.args.order.now.plan.workers
+    subst (λ o. SolveOf c.args.order.now.symmetries c.args.order.now.workers (one_file g.S.FileSystem g.S.Reader.Source old (string_bytes files.puzzle)) (solved_files files does leads old new (writing_of g.W.Sink c.args.output.now o)) (PutsAll files does old new (writing_of g.W.Sink c.args.output.now o)) (Err hinted.fault)) (sym left)
+    (solve_stopped g.S.FileSystem g.S.Reader.Source old (string_bytes files.puzzle) (file g at) c.args.order.now.symmetries c.args.order.now.workers
     (list_to g at) (certificate_to g at) (report_to g at) (solved_files files does leads old new (report_to g at)) (PutsAll files does old new (report_to g at))
     (Undid (list_name files) (certificate_name files) does old new) undone (λ m s. inl s) (λ u. u) hinted.fault (run_as g at (Err hinted.fault) (ap unhinted told)))
 
@@ -107,7 +110,7 @@ pub returns-in-Err-NotPut : goal.returns-in-Err-NotPut
 returns-in-Err-NotPut g c =
     let at = (goal.at.returns-in-Err-NotPut g c).After-told-told in
     let does = g.S.FileSystem.does in
-    let files = c.args.order.now.files.now in
+    let files = c.args.order.now.files in
     let names : ProductNames = record { list = c.deref-2.result; certificate = c.deref-3.result } in
     let old = c.args.system.now in
     let now = c.make_files.new.system in

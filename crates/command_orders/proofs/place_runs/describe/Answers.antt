@@ -14,4 +14,4 @@ returns-in_ok-puzzle-in-File-clause-run g c =
     let given = c.args.input.now in
     let opened = opened_as g.S.FileSystem g.S.Reader.Source c.args.system.now (string_bytes name) c.deref.result.now c.in_ok-puzzle-in-File.puzzle c.describe_from.new.puzzle c.deref.ensures c.in_ok-puzzle-in-File.ensures.opened in
     let to = one_sink (writing_of g.W.Sink c.args.output.now c.describe_from.new.output) in
-    rw c.in-File.is (over_place g.S.FileSystem g.S.Reader.Source g.I.Source c.args.system.now given given (ThenDone (Describes c.args.order.now.description)) DescribeFails to (File name) opened (unhinted c.describe_from.result) c.describe_from.ensures)
+    rw c.in-File.is (over_place g.S.FileSystem g.S.Reader.Source c.args.system.now g.I.Source given given (ThenDone (Describes c.args.order.now.description)) DescribeFails to (File name) opened (unhinted c.describe_from.result) c.describe_from.ensures)

@@ -1,33 +1,37 @@
 use Rattle.std.specs.String.{string_bytes}
 use Rattle.byte_streams.specs.Moves.{writing_of}
-use Rattle.command_words.specs.declared.places.TwoPlaces.TheVariants.{Files, ListOnInput, PuzzleOnInput}
+use Rattle.command_words.specs.declared.places.Place.TheVariants.{File, Input}
 use Rattle.command_runs.specs.Runs.{unhinted}
-use Rattle.command_orders.proofs.OrderLemmas.{opened_as, over_two}
+use Rattle.command_orders.proofs.OrderLemmas.{opened_as, over_two_at}
 use Rattle.command_orders.proofs.place_runs.draw.Goals as goal
 
-pub returns-in_ok-list-in-Files-clause-run : goal.returns-in_ok-list-in-Files-clause-run
-returns-in_ok-list-in-Files-clause-run g c =
-    rw c.in-Files.is (over_two g.S.FileSystem g.S.Reader.Source g.I.Source c.args.system.now c.args.input.now c.args.input.now c.args.order.now.drawing (Files c.in-Files.puzzle c.in-Files.list)
-    (record {
-      puzzle = opened_as g.S.FileSystem g.S.Reader.Source c.args.system.now (string_bytes c.in-Files.puzzle) c.deref.result.now c.in_ok-puzzle-in-Files.puzzle c.draw_from.new.puzzle c.deref.ensures c.in_ok-puzzle-in-Files.ensures.opened;
-      list = opened_as g.S.FileSystem g.S.Reader.Source c.args.system.now (string_bytes c.in-Files.list) c.deref-in-Files.result.now c.in_ok-list-in-Files.list c.draw_from.new.list c.deref-in-Files.ensures c.in_ok-list-in-Files.ensures.opened;
-    })
-    (writing_of g.W.Sink c.args.output.now c.draw_from.new.output) (unhinted c.draw_from.result) c.draw_from.ensures)
+pub returns-in_ok-list-in-File-File-clause-run : goal.returns-in_ok-list-in-File-File-clause-run
+returns-in_ok-list-in-File-File-clause-run g c =
+    let two = c.in-File-File in
+    let puzzle = c.in_ok-puzzle-in-File-File in
+    let list = c.in_ok-list-in-File-File in
+    over_two_at g.S.FileSystem g.S.Reader.Source c.args.system.now g.I.Source c.args.input.now c.args.input.now c.args.order.now.drawing c.args.order.now.places.now
+    (File two.puzzle) (File two.list) two.is-0 two.is-1
+    (opened_as g.S.FileSystem g.S.Reader.Source c.args.system.now (string_bytes two.puzzle) c.deref.result.now puzzle.puzzle c.draw_from.new.puzzle c.deref.ensures puzzle.ensures.opened)
+    (opened_as g.S.FileSystem g.S.Reader.Source c.args.system.now (string_bytes two.list) c.deref-in-File-File.result.now list.list c.draw_from.new.list c.deref-in-File-File.ensures list.ensures.opened)
+    (writing_of g.W.Sink c.args.output.now c.draw_from.new.output) (unhinted c.draw_from.result) c.draw_from.ensures
 
-pub returns-in_ok-list-in-PuzzleOnInput-clause-run : goal.returns-in_ok-list-in-PuzzleOnInput-clause-run
-returns-in_ok-list-in-PuzzleOnInput-clause-run g c =
-    rw c.in-PuzzleOnInput.is (over_two g.S.FileSystem g.S.Reader.Source g.I.Source c.args.system.now c.args.input.now c.draw_from-in-PuzzleOnInput.new.puzzle c.args.order.now.drawing (PuzzleOnInput c.in-PuzzleOnInput.list)
-    (record {
-      puzzle = tt;
-      list = opened_as g.S.FileSystem g.S.Reader.Source c.args.system.now (string_bytes c.in-PuzzleOnInput.list) c.deref-in-PuzzleOnInput.result.now c.in_ok-list-in-PuzzleOnInput.list c.draw_from-in-PuzzleOnInput.new.list c.deref-in-PuzzleOnInput.ensures c.in_ok-list-in-PuzzleOnInput.ensures.opened;
-    })
-    (writing_of g.W.Sink c.args.output.now c.draw_from-in-PuzzleOnInput.new.output) (unhinted c.draw_from-in-PuzzleOnInput.result) c.draw_from-in-PuzzleOnInput.ensures)
+pub returns-in_ok-list-in-Input-File-clause-run : goal.returns-in_ok-list-in-Input-File-clause-run
+returns-in_ok-list-in-Input-File-clause-run g c =
+    let two = c.in-Input-File in
+    let list = c.in_ok-list-in-Input-File in
+    let drawn = c.draw_from-in-Input-File in
+    over_two_at g.S.FileSystem g.S.Reader.Source c.args.system.now g.I.Source c.args.input.now drawn.new.puzzle c.args.order.now.drawing c.args.order.now.places.now
+    Input (File two.list) two.is-0 two.is-1 tt
+    (opened_as g.S.FileSystem g.S.Reader.Source c.args.system.now (string_bytes two.list) c.deref-in-Input-File.result.now list.list drawn.new.list c.deref-in-Input-File.ensures list.ensures.opened)
+    (writing_of g.W.Sink c.args.output.now drawn.new.output) (unhinted drawn.result) drawn.ensures
 
-pub returns-in_ok-puzzle-in-ListOnInput-clause-run : goal.returns-in_ok-puzzle-in-ListOnInput-clause-run
-returns-in_ok-puzzle-in-ListOnInput-clause-run g c =
-    rw c.in-ListOnInput.is (over_two g.S.FileSystem g.S.Reader.Source g.I.Source c.args.system.now c.args.input.now c.draw_from-in-ListOnInput.new.list c.args.order.now.drawing (ListOnInput c.in-ListOnInput.puzzle)
-    (record {
-      puzzle = opened_as g.S.FileSystem g.S.Reader.Source c.args.system.now (string_bytes c.in-ListOnInput.puzzle) c.deref-in-ListOnInput.result.now c.in_ok-puzzle-in-ListOnInput.puzzle c.draw_from-in-ListOnInput.new.puzzle c.deref-in-ListOnInput.ensures c.in_ok-puzzle-in-ListOnInput.ensures.opened;
-      list = tt;
-    })
-    (writing_of g.W.Sink c.args.output.now c.draw_from-in-ListOnInput.new.output) (unhinted c.draw_from-in-ListOnInput.result) c.draw_from-in-ListOnInput.ensures)
+pub returns-in_ok-puzzle-in-File-Input-clause-run : goal.returns-in_ok-puzzle-in-File-Input-clause-run
+returns-in_ok-puzzle-in-File-Input-clause-run g c =
+    let two = c.in-File-Input in
+    let puzzle = c.in_ok-puzzle-in-File-Input in
+    let drawn = c.draw_from-in-File-Input in
+    over_two_at g.S.FileSystem g.S.Reader.Source c.args.system.now g.I.Source c.args.input.now drawn.new.list c.args.order.now.drawing c.args.order.now.places.now
+    (File two.puzzle) Input two.is-0 two.is-1
+    (opened_as g.S.FileSystem g.S.Reader.Source c.args.system.now (string_bytes two.puzzle) c.deref-in-File-Input.result.now puzzle.puzzle drawn.new.puzzle c.deref-in-File-Input.ensures puzzle.ensures.opened) tt
+    (writing_of g.W.Sink c.args.output.now drawn.new.output) (unhinted drawn.result) drawn.ensures

@@ -5,15 +5,15 @@ use Rattle.byte_streams.specs.Origins.{one_source}
 use Rattle.byte_streams.specs.declared.faults.Document.TheVariants as documents
 use Rattle.command_runs.specs.Census.{CensusFails, CensusGives}
 use Rattle.command_orders.proofs.OrderLemmas.{then_done}
-use Rattle.command_orders.proofs.place_runs.CensusOrder.count_from.Goals as goal
+use Rattle.command_orders.proofs.place_runs.count_from.Goals as goal
 
 pub returns-in_err-run_census : goal.returns-in_err-run_census
 returns-in_err-run_census g c =
     let w = err_from_is_err_and c.from_residual.result c.from_residual.ensures.1 in
     let from = one_source documents.Puzzle (reading_of g.P.Source c.args.puzzle.now c.run_census.new.puzzle) in
-    rw (w.1, w.2) (then_done (writing_of g.W.Sink c.args.output.now c.run_census.new.writer) from from (CensusGives c.args.self.now.extent) (CensusFails c.args.self.now.extent) (λ t gave. gave) (λ f stops. stops) (Err c.in_err-run_census.field-0.0.fault) c.in_err-run_census.ensures)
+    rw (w.1, w.2) (then_done (writing_of g.W.Sink c.args.output.now c.run_census.new.writer) from from (CensusGives c.args.order.now.extent) (CensusFails c.args.order.now.extent) (λ t gave. gave) (λ f stops. stops) (Err c.in_err-run_census.field-0.0.fault) c.in_err-run_census.ensures)
 
 pub returns : goal.returns
 returns g c =
     let from = one_source documents.Puzzle (reading_of g.P.Source c.args.puzzle.now c.run_census.new.puzzle) in
-    then_done (writing_of g.W.Sink c.args.output.now c.run_census.new.writer) from from (CensusGives c.args.self.now.extent) (CensusFails c.args.self.now.extent) (λ t gave. gave) (λ f stops. stops) (Ok tt) c.in_ok-run_census.ensures
+    then_done (writing_of g.W.Sink c.args.output.now c.run_census.new.writer) from from (CensusGives c.args.order.now.extent) (CensusFails c.args.order.now.extent) (λ t gave. gave) (λ f stops. stops) (Ok tt) c.in_ok-run_census.ensures

@@ -6,7 +6,7 @@ use Rattle.byte_streams.specs.declared.outputs.Products.{Products}
 use Rattle.command_words.specs.declared.places.Files.{Files}
 use Rattle.command_orders.specs.Files.{HaveDifferentNames}
 use Rattle.command_orders.specs.SolvedFiles.{FilesStand, certificate_name, list_name}
-use Rattle.command_orders.proofs.made_files.nothing_is_lost.Goals as goal
+use Rattle.command_orders.proofs.laws.nothing_is_lost.Goals as goal
 
 stand : (files : Files) → HaveDifferentNames files → (made : Products) → FilesStand files made
 stand files names made =

@@ -6,12 +6,12 @@ use Rattle.command_orders.specs.OrderRuns.{ThenDone}
 use Rattle.command_runs.specs.Runs.{unhinted}
 use Rattle.command_runs.specs.Census.{CensusFails, CensusGives}
 use Rattle.command_orders.proofs.OrderLemmas.{opened_as, over_place}
-use Rattle.command_orders.proofs.place_runs.CensusOrder.count.Goals as goal
+use Rattle.command_orders.proofs.place_runs.count.Goals as goal
 
 pub returns-in_ok-puzzle-in-File-clause-run : goal.returns-in_ok-puzzle-in-File-clause-run
 returns-in_ok-puzzle-in-File-clause-run g c =
-    let name = c.in-File.name in
+    let name = c.in-File.file in
     let given = c.args.input.now in
     let opened = opened_as g.S.FileSystem g.S.Reader.Source c.args.system.now (string_bytes name) c.deref.result.now c.in_ok-puzzle-in-File.puzzle c.count_from.new.puzzle c.deref.ensures c.in_ok-puzzle-in-File.ensures.opened in
     let to = one_sink (writing_of g.W.Sink c.args.output.now c.count_from.new.output) in
-    rw c.in-File.is (over_place g.S.FileSystem g.S.Reader.Source g.I.Source c.args.system.now given given (ThenDone (CensusGives c.args.self.now.extent)) (CensusFails c.args.self.now.extent) to (File name) opened (unhinted c.count_from.result) c.count_from.ensures)
+    rw c.in-File.is (over_place g.S.FileSystem g.S.Reader.Source c.args.system.now g.I.Source given given (ThenDone (CensusGives c.args.order.now.extent)) (CensusFails c.args.order.now.extent) to (File name) opened (unhinted c.count_from.result) c.count_from.ensures)

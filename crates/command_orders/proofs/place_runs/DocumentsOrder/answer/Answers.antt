@@ -1,0 +1,17 @@
+use Rattle.std.proofs.Common.{◌≡◌, Ok, Err, rules, subst, sym}
+use Rattle.std.proofs.lemmas.Result.{err_from_is_err_and}
+use Rattle.byte_streams.specs.Moves.{writing_of}
+use Rattle.command_runs.specs.Checking.{CheckFails, CheckGives}
+use Rattle.command_orders.specs.OrderRuns.{CheckOf}
+use Rattle.command_orders.proofs.OrderLemmas.{check_complete, over_documents}
+use Rattle.command_orders.proofs.place_runs.DocumentsOrder.answer.Goals as goal
+
+pub returns-in_err-status-clause-run : goal.returns-in_err-status-clause-run
+returns-in_err-status-clause-run g c =
+    let w = err_from_is_err_and c.from_residual.result c.from_residual.ensures.1 in
+    let new = c.run_check_watched.new in
+    let left : c.output-1.given.0 ≡ new.outputs.sink.now = search rules in
+    let fault = c.in_err-status.field-0.0.fault in
+    let from = g.N.Inputs.reads c.args.inputs.now new.inputs in
+    rw (w.1, w.2) (subst (λ o. CheckOf from (writing_of g.W.Sink c.args.output.now o) (Err fault)) (sym left)
+    (over_documents (writing_of g.W.Sink c.args.output.now new.outputs.sink.now) CheckGives CheckFails check_complete from (Err fault) c.in_err-status.ensures.run))
