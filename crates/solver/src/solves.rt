@@ -178,6 +178,9 @@ fn add(
 }
 
 // The receipt of the next lemma, and what it found, if that may be listed with what was collected.
+//
+// The puzzle and the desk are there for the clauses alone. A receipt doesn't know its desk, and an arrangement doesn't
+// know its puzzle: no other value here says of which they are.
 fn receipt_of(
     _puzzle: &Puzzle,
     _desk: &FlatDesk,
@@ -204,6 +207,9 @@ fn receipt_of(
 }
 
 // What all lemmas found, in the order of their numbers.
+//
+// The puzzle and the desk are there for the clauses alone: no other value here says of which puzzle the arrangements
+// are, and of which desk the receipts.
 fn collect(
     alloc: Global,
     _puzzle: &Puzzle,
