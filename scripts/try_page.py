@@ -1,5 +1,6 @@
 #!/usr/bin/env python3
-"""Tries web/check.html in a browser, as its readers use it: headless Chromium, which takes orders by a pipe.
+"""Tries web/check.html in a browser, as its readers use it, and pages as `edgematch page` prints them: headless
+Chromium, which takes orders by a pipe.
 
 Each trial chooses or drops files, presses buttons and keys, and reads what stands on the page and what a screen reader
 gets. The answers that are wanted are those of cases and examples, or were worked out by hand. In each trial the page
@@ -173,6 +174,7 @@ class Page:
 
     def __init__(self, browser):
         self.browser, self.address, self.patience = browser, None, MOST_SECONDS
+        self.path, self.read = None, None
         target = browser.call("Target.createTarget", url="about:blank")["targetId"]
         self.session = browser.call("Target.attachToTarget", targetId=target, flatten=True)["sessionId"]
         for domain in ("Page", "Runtime", "Log", "Network"):
@@ -182,9 +184,10 @@ class Page:
         self.call("Page.bringToFront")
         browser.events.clear()
 
-    def show(self, path, patience):
-        """From here on `open` opens this one, and `patience` seconds is waited for what it has to do."""
-        self.address, self.patience = f"file://{path}", patience
+    def show(self, path, patience, read):
+        """From here on `open` opens this one, whose parts are read so, and `patience` seconds is waited for what it has
+        to do."""
+        self.path, self.patience, self.read = path, patience, read
 
     def call(self, method, **words):
         return self.browser.call(method, self.session, **words)
@@ -202,7 +205,8 @@ class Page:
                           "done(true) : Date.now() > until ? done(false) : setTimeout(look, 3); look(); })"):
             raise Gone(f"it doesn't come that {condition}")
 
-    def open(self, width=1280, scripts=True):
+    def open(self, width=1280, scripts=True, path=None):
+        self.address = f"file://{path or self.path}"
         self.call("Emulation.setDeviceMetricsOverride", width=width, height=900, deviceScaleFactor=1, mobile=False)
         self.call("Emulation.setScriptExecutionDisabled", value=not scripts)
         self.value("globalThis.isBefore = true")
@@ -321,6 +325,23 @@ class Texts:
                 file.write(text)
         return paths
 
+    def publish(self, read, texts, told=None, beside=()):
+        """A page that publishes these texts, of which some are beside it, and tells the SHA-256 of those told."""
+        holes = dict.fromkeys(["title", "heading"], "Six in a row") | {"sheet": "", "picture": "<svg></svg>"}
+        holes |= dict.fromkeys(["arrangements", "pictures", "orbits", "symmetries", "listed", "answer"], "12345")
+        holes |= {"picture-name": "Arrangement 0"}
+        for name, text, one in zip(DOCUMENTS, texts, told or texts):
+            holes |= {f"{name}-place": "a file beside this page" if name in beside else "this page",
+                      f"{name}-length": str(len(one)), f"{name}-digest": hashlib.sha256(one).hexdigest(),
+                      name: "" if name in beside else text.decode("ascii")}
+        return self.named("published.html", make_page.published(holes, read))
+
+    def named(self, name, text):
+        path = os.path.join(self.folder, name)
+        with open(path, "w", encoding="ascii", newline="\n") as file:
+            file.write(text)
+        return path
+
     def example(self, name):
         # A browser opens no file by a path with dots in it.
         return [os.path.join(os.path.realpath(EXAMPLES), name, it) for it in DOCUMENTS]
@@ -341,9 +362,9 @@ SEEN = f"""(() => {{
 }})()"""
 
 
-def checked(page, paths, line):
+def checked(page, paths, line, button="Check"):
     """What isn't as wanted where the texts that were chosen, these, are checked and have this answer."""
-    page.press("Check")
+    page.press(button)
     page.until('!document.querySelector("#answer").hidden || document.querySelector("[role=status]").innerText'
                '.includes("could not")')
     *got, shown, digests = page.value(SEEN)
@@ -467,20 +488,25 @@ def sample(page, texts):
         yield from (f"{trial.name}: {fault}" for fault in checked(page, paths, trial.line))
 
 
-def pictures(page, texts):
-    """As many pictures as are listed, 24 at once, and one large. By hand: eight equal tiles that aren't turned stand in
-    a row in 8! ways."""
-    tiles = range(8)
-    rows = [" ".join(f"{tile}.0" for tile in order) for order in itertools.permutations(tiles)]
+def in_a_row(count):
+    """The texts of so many equal tiles in a row, which aren't turned: all their orders."""
+    rows = [" ".join(f"{tile}.0" for tile in order) for order in itertools.permutations(range(count))]
     numbers = itertools.count()
 
     def node(cell):
-        below = " ".join(node(cell + 1) for _ in range(8 - cell))
-        return f"c {cell} {8 - cell} {below}" if below else f"f {next(numbers)}"
+        below = " ".join(node(cell + 1) for _ in range(count - cell))
+        return f"c {cell} {count - cell} {below}" if below else f"f {next(numbers)}"
 
-    paths = texts.put(b"match 1\nboard rect 8 1\nturns no\nborder free\ntiles 8\n" + 8 * b"tile 0000\n" + b"end\n",
-                      "\n".join(["list 1", f"arrangements {len(rows)}", *rows, "end", ""]).encode(),
-                      f"certificate 1\nsymmetries 0\nlemmas 1\nlemma 0 prefix tree {node(0)}\nend\n".encode())
+    puzzle = ["match 1", f"board rect {count} 1", "turns no", "border free", f"tiles {count}", *["tile 0000"] * count]
+    certificate = ["certificate 1", "symmetries 0", "lemmas 1", f"lemma 0 prefix tree {node(0)}"]
+    every = (puzzle, ["list 1", f"arrangements {len(rows)}", *rows], certificate)
+    return ["\n".join([*lines, "end", ""]).encode() for lines in every]
+
+
+def pictures(page, texts):
+    """As many pictures as are listed, 24 at once, and one large. By hand: eight equal tiles that aren't turned stand in
+    a row in 8! ways."""
+    paths = texts.put(*in_a_row(8))
     page.open(width=390)
     page.choose(*paths)
     yield from checked(page, paths, "complete 40320")
@@ -577,8 +603,62 @@ def without_scripts(page, _):
         yield f"without scripts it has {buttons}"
 
 
+def published(page, texts):
+    """A page that publishes a list has its texts and pictures at once, and they are checked there. By hand: three equal
+    tiles stand in a row in 3! ways."""
+    own = in_a_row(3)
+    page.open(width=390, path=texts.publish(page.read, own))
+    count = page.value('document.querySelectorAll("#sheet svg").length')
+    if count != 6 or "All 6 are shown." not in page.shown():
+        yield f"before a check it shows {count} pictures"
+    yield from checked(page, texts.put(*own), "complete 6", "Check in this browser")
+    if "The three texts have the SHA-256 that this page tells." not in page.shown():
+        yield "it doesn't say that these are the texts that it publishes"
+
+
+def published_beside(page, texts):
+    """A text that is a file beside the page is chosen there; until then nothing is checked. Another one in its place is
+    noticed."""
+    own = in_a_row(3)
+    page.open(path=texts.publish(page.read, own, beside=["certificate"]))
+    if page.can_press("Check in this browser"):
+        yield "it would check before the file beside it is there"
+    paths = texts.put(*own)
+    page.choose(paths[2])
+    yield from checked(page, paths, "complete 6", "Check in this browser")
+    wrong = texts.put(own[2].replace(b"c 0 3", b"c 0 4 d 0", 1))[0]
+    page.choose(wrong)
+    yield from checked(page, [*paths[:2], wrong], "refused tree 0 at - wrong-count 3 4", "Check in this browser")
+    if "the SHA-256 of the certificate is another" not in page.shown():
+        yield "it doesn't say that another certificate was checked"
+
+
+def published_tampered(page, texts):
+    """A page in which a text was changed says so, and what the check of it comes to."""
+    own = in_a_row(3)
+    wrong = [own[0], own[1].replace(b"arrangements 6", b"arrangements 5").replace(b"2.0 1.0 0.0\n", b""), own[2]]
+    page.open(path=texts.publish(page.read, wrong, told=own))
+    line = "refused tree 0 at 2.1.0 list-range"
+    yield from checked(page, texts.put(*wrong), line, "Check in this browser")
+    if "the SHA-256 of the list is another" not in page.shown():
+        yield "it doesn't say that another list was checked"
+
+
+def published_without_scripts(page, texts):
+    """Without scripts a page shows the numbers, the pictures and the SHA-256 that it has, and has no button that does
+    nothing."""
+    own = in_a_row(3)
+    page.open(path=texts.publish(page.read, own), scripts=False)
+    shown = page.shown()
+    wanted = ["Six in a row", "12345", "Scripts don\u2019t run here.", *(hashlib.sha256(it).hexdigest() for it in own)]
+    yield from (f"without scripts there is no {it!r}" for it in wanted if it not in shown)
+    buttons = [it["role"]["value"] for it in page.tree() if it["role"]["value"] in ("button", "progressbar")]
+    if buttons:
+        yield f"without scripts it has {buttons}"
+
+
 TRIALS = [in_any_order, joined_and_dropped, refused, chosen_last, no_text, spare_tiles, by_keys, without_scripts,
-          pictures, digests, sample, large]
+          pictures, digests, sample, published, published_beside, published_tampered, published_without_scripts, large]
 
 
 def faults_of(trial, page, texts, watch):
@@ -591,27 +671,26 @@ def faults_of(trial, page, texts, watch):
     yield from (f"a network is asked for {it}" for it in watch.asked())
 
 
-def wrong_page(wrong):
-    """A page with such a change, and how often the text that is changed stands in its part."""
-    parts = {name: make_page.text_of(name) for name in (make_page.FRAME, make_page.STYLE, *make_page.SCRIPTS)}
+def wrong_parts(wrong):
+    """The parts with such a change, by their names, and how often the text that is changed stands in its part."""
+    names = (make_page.FRAME, make_page.PUBLISHED, make_page.STYLE, *make_page.SCRIPTS)
+    parts = {name: make_page.part(name) for name in names}
     count = parts[wrong["file"]].count(wrong["old"])
     parts[wrong["file"]] = parts[wrong["file"]].replace(wrong["old"], wrong["new"], 1)
     if "policy" in wrong:
         parts[make_page.FRAME] = parts[make_page.FRAME].replace("{policy}", "{policy}; " + wrong["policy"], 1)
-    return make_page.page(parts.get), count
+    return parts, count
 
 
 def of_wrong_pages(page, texts, watch):
     """The wrong pages, each with what is said where its trial doesn't notice it."""
-    trials, path = {it.__name__: it for it in TRIALS}, os.path.join(texts.folder, "wrong.html")
+    trials = {it.__name__: it for it in TRIALS}
     with open(WRONG, "rb") as file:
         every = tomllib.load(file)
     for name, wrong in every.items():
-        text, count = wrong_page(wrong)
+        parts, count = wrong_parts(wrong)
         faults = [] if count == 1 else [f"its text stands {count} times in {wrong['file']}, and not once"]
-        with open(path, "w", encoding="utf-8", newline="\n") as file:
-            file.write(text)
-        page.show(path, PATIENCE)
+        page.show(texts.named("wrong.html", make_page.page(parts.get)), PATIENCE, parts.get)
         if next(faults_of(trials[wrong["trial"]], page, texts, watch), None) is None:
             faults.append(f"the trial {wrong['trial']} doesn't notice it")
         # What it asked for is no fault of the next one.
@@ -627,7 +706,8 @@ def tried(path):
         try:
             texts = Texts(folder)
             page = Page(browser)
-            page.show(os.path.realpath(os.path.join(make_page.WEB, make_page.PAGE)), MOST_SECONDS)
+            path = os.path.realpath(os.path.join(make_page.WEB, make_page.PAGE))
+            page.show(path, MOST_SECONDS, make_page.part)
             for trial in TRIALS:
                 yield trial.__name__, list(faults_of(trial, page, texts, watch))
             yield from of_wrong_pages(page, texts, watch)

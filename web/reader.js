@@ -1,5 +1,6 @@
-/* What the page does: it takes files, has the checker run in a worker, tells how far it is and what came of it, and
-   shows the puzzle and the arrangements. It asks nothing of any network. */
+/* What a page does: it takes files, has the checker run in a worker, tells how far it is and what came of it, and shows
+   the puzzle and the arrangements. It asks nothing of any network. A page that publishes a list has texts in it, which
+   are taken at first, and tells where each text is and its SHA-256. */
 
 "use strict";
 
@@ -16,12 +17,35 @@
 
   // ---- The three texts
 
-  const texts = {}; // by name: { source, from }, where the source is a file or bytes
+  const texts = {}; // by name: { source, from, isInside }, where the source is a file or bytes
+  const told = {}; // by name, what the page itself says of the text: { from, digest }, or nothing
 
   const bytesIn = async (source) => (source instanceof Blob ? new Uint8Array(await source.arrayBuffer()) : source);
   const sizeOf = (source) => (source instanceof Blob ? source.size : source.length);
   const nameOf = (bytes) => FIRST_WORDS[latin(bytes.subarray(0, 16)).split(/[ \r\n]/)[0]];
   const missing = () => NAMES.filter((name) => !texts[name]);
+
+  // Notes what the page says of each text, and takes those that are in it.
+  function takeInside() {
+    for (const name of NAMES) {
+      told[name] = { from: element(`${name}-from`).textContent, digest: element(`${name}-digest`).textContent };
+      const inside = element(`${name}-inside`);
+      if (inside === null) continue;
+      element(`${name}-save`).addEventListener("click", () => save(name));
+      if (inside.textContent !== "") {
+        texts[name] = { source: new TextEncoder().encode(inside.textContent), from: "this page", isInside: true };
+      }
+    }
+  }
+
+  function save(name) {
+    const address = URL.createObjectURL(new Blob([texts[name].source], { type: "application/octet-stream" }));
+    const link = document.createElement("a");
+    link.href = address;
+    link.download = name;
+    link.click();
+    setTimeout(() => URL.revokeObjectURL(address), 60000);
+  }
 
   // What a file has, by the first word of its text: the names of one text, or of three that stand there joined.
   async function take(file) {
@@ -39,21 +63,21 @@
   // Takes all files of one choice. Of two that have the same text the last counts, and it is said.
   async function takeAll(files) {
     if (worker !== null || files.length === 0) return;
-    const told = [], taken = new Set();
+    const said = [], taken = new Set();
     for (const file of files) {
       try {
         const names = await take(file);
-        if (names.length === 0) told.push(`${file.name} begins with none of the words match, list and certificate.`);
+        if (names.length === 0) said.push(`${file.name} begins with none of the words match, list and certificate.`);
         for (const name of names) {
-          if (taken.has(name)) told.push(`There were two files with a ${name}: ${file.name} counts.`);
+          if (taken.has(name)) said.push(`There were two files with a ${name}: ${file.name} counts.`);
           taken.add(name);
         }
       } catch (why) {
-        told.push(`${file.name} can’t be read (${why.message}).`);
+        said.push(`${file.name} can’t be read (${why.message}).`);
       }
     }
     forget();
-    say([...told, ready()].join(" "));
+    say([...said, ready()].join(" "));
   }
 
   function ready() {
@@ -66,15 +90,18 @@
   // An answer is of the texts that were checked: it goes where others come.
   function forget() {
     for (const id of ["answer", "checked", "pictures"]) element(id).hidden = true;
-    for (const name of NAMES) element(`${name}-digest`).textContent = "";
+    for (const name of NAMES) element(`${name}-digest`).textContent = told[name].digest;
     for (const id of ["sheet", "large", "facts"]) element(id).replaceChildren();
+    if (printed !== null) printed.hidden = false;
     showTexts();
+    showInside();
   }
 
   function showTexts() {
     for (const name of NAMES) {
-      const text = texts[name], told = text && `${text.from}, ${many(sizeOf(text.source), "byte")}`;
-      element(`${name}-from`).textContent = told ?? "not here yet";
+      const text = texts[name], here = text && `${text.from}, ${many(sizeOf(text.source), "byte")}`;
+      element(`${name}-from`).textContent = here ?? (told[name].from || "not here yet");
+      if (printed !== null) element(`${name}-save`).hidden = !text;
     }
     element("check").disabled = missing().length > 0 || worker !== null;
     element("files").disabled = worker !== null;
@@ -162,7 +189,8 @@
     worker.onerror = (event) => fail(event.message || "a worker can’t be started");
     worker.postMessage(NAMES.map((name) => texts[name].source));
     quarter = 0;
-    forget();
+    element("answer").hidden = true;
+    showTexts();
     element("bar").value = 0;
     element("bar").hidden = false;
     element("stop").hidden = false;
@@ -200,7 +228,7 @@
     rest();
     element("answer").dataset.kind = ["complete", "refused", "fault"][answer.status];
     element("answer-line").textContent = answer.line;
-    element("answer-words").textContent = inWords(answer);
+    element("answer-words").textContent = [inWords(answer), ...aboutDigests(digests)].join(" ");
     element("answer").hidden = false;
     NAMES.forEach((name, i) => (element(`${name}-digest`).textContent = digests[i]));
     say(seconds < 0.1 ? "Checked in less than 0.1 seconds." : `Checked in ${seconds.toFixed(1)} seconds.`);
@@ -232,9 +260,33 @@
       + `${symmetries === 1 ? "symmetry" : `${grouped(symmetries)} symmetries`} that the certificate names.`;
   }
 
-  // ---- What was checked
+  // Whether what was checked is what the page tells of, where it tells of texts.
+  function aboutDigests(digests) {
+    if (NAMES.every((name) => told[name].digest === "")) return [];
+    const others = NAMES.filter((name, i) => told[name].digest !== digests[i]);
+    if (others.length === 0) return ["The three texts have the SHA-256 that this page tells."];
+    return [`But what was checked is not what this page publishes: the SHA-256 of the ${others.join(" and of the ")} `
+      + "is another."];
+  }
 
+  // ---- What is shown
+
+  const printed = element("printed"); // pictures that the page has already, if it has some
   let puzzle = null, list = null, starts = [];
+
+  // The pictures of the puzzle and the list that are in the page, in place of its own. Where they can't be drawn, these
+  // stay: a check says what is wrong.
+  function showInside() {
+    if (!["puzzle", "list"].every((name) => texts[name]?.isInside)) return;
+    try {
+      puzzle = edgematchPuzzle(texts.puzzle.source);
+      list = texts.list.source;
+      showPictures();
+    } catch (why) {
+      element("pictures").hidden = true;
+      printed.hidden = false;
+    }
+  }
 
   // The puzzle of a check, and where the list was called complete its pictures.
   async function showChecked(isComplete) {
@@ -243,16 +295,21 @@
     if (sources.some((it, i) => texts[NAMES[i]].source !== it)) return; // others were chosen meanwhile
     puzzle = edgematchPuzzle(puzzleBytes);
     list = listBytes;
-    starts = isComplete ? linesOf(list) : [];
     element("facts").replaceChildren(...factsOf(puzzle).map(factRow));
     element("puzzle-text").textContent = latin(puzzleBytes);
     element("checked").hidden = false;
-    if (starts.length === 0) return;
+    if (isComplete && element("pictures").hidden) showPictures();
+  }
+
+  function showPictures() {
+    starts = linesOf(list);
+    if (starts.length < (printed === null ? 1 : 2)) return; // a page that publishes a list has the first picture
     element("number").max = starts.length - 1;
     element("number").value = 0;
     element("pictures").hidden = false;
     element("several").hidden = starts.length === 1;
-    showLarge(0);
+    if (printed === null) showLarge(0);
+    else printed.hidden = true;
     more();
   }
 
@@ -378,6 +435,8 @@
     takeAll([...event.dataTransfer.files]);
   });
   document.body.classList.add("scripted");
+  takeInside();
   showTexts();
+  showInside();
   say(ready());
 })();

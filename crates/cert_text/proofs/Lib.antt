@@ -14,3 +14,4 @@ pub mod WholeLemmas
 pub mod LawLemmas
 pub mod CutLemmas
 pub mod WritingLemmas
+pub mod CertificateCharacterLemmas

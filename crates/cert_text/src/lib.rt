@@ -1,6 +1,7 @@
 //! Reads and writes the texts of certificates and of their lemmas (numbered claims, each with a tree of cases).
 #![tactic(auto)]
 
+mod character_laws;
 mod crew_limits;
 mod entries;
 mod faults;
@@ -12,6 +13,7 @@ mod readers;
 mod spellings;
 mod tree_readers;
 
+pub use character_laws::certificate_characters;
 pub use crew_limits::within_limits_with;
 pub use faults::{CertTextFault, LemmaTextFault};
 pub use laws::{certificate_laws, lemma_laws};

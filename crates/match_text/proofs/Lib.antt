@@ -7,3 +7,5 @@ pub mod ClueLemmas
 pub mod LimitLemmas
 pub mod ReadingLemmas
 pub mod RowLineLemmas
+pub mod ListCharacterLemmas
+pub mod PuzzleCharacterLemmas

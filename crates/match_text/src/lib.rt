@@ -1,6 +1,7 @@
 //! Texts of puzzles and of lists of arrangements.
 #![tactic(auto)]
 
+mod character_laws;
 mod faults;
 mod laws;
 mod list_spellings;
@@ -10,6 +11,7 @@ mod puzzles;
 mod row_lines;
 mod tile_spellings;
 
+pub use character_laws::{list_characters, puzzle_characters};
 pub use faults::{ListTextFault, PuzzleTextFault};
 pub use laws::{list_laws, puzzle_laws};
 pub use list_spellings::{list_within_limits, write_list};

@@ -9,3 +9,4 @@ pub mod LineLemmas
 pub mod TextLaws
 pub mod WritingLemmas
 pub mod ColourLemmas
+pub mod CharacterLemmas

@@ -6,3 +6,4 @@ pub mod Words
 pub mod Place
 pub mod Spelling
 pub mod Laws
+pub mod Characters

@@ -1,0 +1,3 @@
+pub mod JoiningLemmas
+pub mod TitleLemmas
+pub mod ElementLemmas

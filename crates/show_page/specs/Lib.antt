@@ -1,0 +1,9 @@
+pub mod Joined
+pub mod Titles
+pub mod Counts
+pub mod Texts
+pub mod Rows
+pub mod Pictures
+pub mod Pages
+pub mod Holes
+pub mod Elements
