@@ -87,7 +87,7 @@ package: ## makes an archive in FOLDER (.) for readers who only check, and print
 	trap 'rm -rf "$$made"' EXIT
 	root=$$made/$$name
 	$(put)
-	mkdir "$$root/docs" "$$root/web"
+	mkdir -p "$$root/docs/pages" "$$root/web"
 	# The page for readers stands above the others, and so do its links.
 	sed -E -e 's/\]\(([A-Z_]+\.md)/](docs\/\1/g' -e 's/\]\(\.\.\//](/g' docs/CHECKING.md >"$$root/README.md"
 	sources="its sources"
@@ -105,13 +105,15 @@ package: ## makes an archive in FOLDER (.) for readers who only check, and print
 	  printf '`%s`.\n' "$$(sha256sum <$(PROGRAM) | cut -d ' ' -f 1)"
 	} >>"$$root/README.md"
 	# The other pages for readers. What they lead to beside stands with the sources, and is a name alone here.
-	for page in docs/{FORMATS,BY_HAND,SOLVING,LARGE,GALLERY,THEOREM,PROVED,MEASURED} web/README; do
-	  sed -E 's/\[([^]]+)\]\((ARCHITECTURE\.md[^)]*|\.\.\/(CONTRIBUTING\.md|(crates|cases)\/[^)]*))\)/\1/g' "$$page.md" \
+	for page in docs/{FORMATS,BY_HAND,SOLVING,LARGE,GALLERY,THEOREM,PROVED,MEASURED,pages/README} web/README; do
+	  sed -E -e 's/\[([^]]+)\]\((ARCHITECTURE\.md[^)]*|\.\.\/(CONTRIBUTING\.md|(crates|cases)\/[^)]*))\)/\1/g' \
+	    -e 's/\]\(CHECKING\.md/](..\/README.md/g' -e 's/\]\(\.\.\/CHECKING\.md/](..\/..\/README.md/g' "$$page.md" \
 	    >"$$root/$$page.md"
 	done
 	# The second checker, for readers whose system doesn't run the program.
 	cp web/{check.html,check.js,cli.js} "$$root/web"
 	cp -R docs/pictures "$$root/docs"
+	cp docs/pages/*.{html,zip,png} "$$root/docs/pages"
 	cp CHANGELOG.md "$$root"
 	cp -R examples "$$root"
 	python3 scripts/gallery.py $(PROGRAM) --texts "$$root/examples/gallery" >/dev/null

@@ -5,10 +5,10 @@ _edgematch() {
   local word=${COMP_WORDS[COMP_CWORD]} before=${COMP_WORDS[COMP_CWORD - 1]} command=${COMP_WORDS[1]} words
   COMPREPLY=()
   if [ "$COMP_CWORD" -eq 1 ]; then
-    words="check explain solve expand count total show draw symmetries tiles help --help --version"
+    words="check explain solve expand page count total show draw symmetries tiles help --help --version"
   else
     case $before in
-      --depth | --first | --forks | --fuel | --most | --part | --workers) return ;;
+      --depth | --first | --forks | --fuel | --most | --part | --title | --workers) return ;;
       --symmetries)
         mapfile -t COMPREPLY < <(compgen -W "all board" -- "$word")
         return
@@ -19,17 +19,18 @@ _edgematch() {
       explain) words="--help" ;;
       solve) words="--depth --fuel --workers --symmetries --progress --hints --help" ;;
       expand) words="--orbits --hints --help" ;;
+      page) words="--title --first --hints --help" ;;
       count) words="--workers --most --part --progress --help" ;;
       total) words="--help" ;;
       show) words="--help" ;;
       draw) words="--first --numbers --help" ;;
       symmetries) words="--help" ;;
       tiles) words="--lines --help" ;;
-      help) words="check explain solve expand count total show draw symmetries tiles help" ;;
+      help) words="check explain solve expand page count total show draw symmetries tiles help" ;;
     esac
   fi
   case $command in
-    check | explain | solve | expand | count | total | show | draw | symmetries)
+    check | explain | solve | expand | page | count | total | show | draw | symmetries)
       if [ "$COMP_CWORD" -gt 1 ] && [ "${word:0:1}" != - ]; then
         mapfile -t COMPREPLY < <(compgen -f -- "$word")
         return

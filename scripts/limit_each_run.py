@@ -72,6 +72,7 @@ class Puzzle:
     def looks(self):
         """The commands that only read."""
         yield ["expand", *self.files]
+        yield ["page", *self.files]
         for crew in CREWS:
             yield ["check", *self.files, *crew]
         yield ["check", *self.files, "--workers", "2", "--forks", "2"]

@@ -183,7 +183,7 @@ def commands():
         for words in ("count", "count --workers 3", "count --most 3", "explain", "symmetries"):
             command, *options = words.split()
             found.append(Command(f"program: {example}, {words} PUZZLE", [program, command, files[0], *options]))
-        for words in ("check", "check --workers 3 --forks 2", "expand"):
+        for words in ("check", "check --workers 3 --forks 2", "expand", "page"):
             command, *options = words.split()
             found.append(Command(f"program: {example}, {words}", [program, command, *files, *options]))
         for words in ("draw", "draw LIST 0 --numbers", "draw LIST 0 --first 2"):

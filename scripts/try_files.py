@@ -498,7 +498,7 @@ def an_input_of_another(trial):
     for name, text in (("puzzle", SMALL), ("list", SMALL_LIST), ("certificate", SMALL_CERTIFICATE)):
         trial.put(name, text)
     for words in ("check puzzle list certificate", "solve puzzle made made_too", "expand puzzle list certificate",
-                  "explain puzzle list certificate", "count puzzle", "count puzzle list certificate", "show puzzle",
+                  "page puzzle list certificate", "explain puzzle list certificate", "count puzzle", "count puzzle list certificate", "show puzzle",
                   "show puzzle list", "draw puzzle", "draw puzzle list", "symmetries puzzle", "explain puzzle", "tiles 3 2"):
         script = f'printf "a\\nb\\n" | while read it; do "$0" {words} > /dev/null; echo $it; done'
         run = subprocess.run(["bash", "-c", script, trial.program], stdin=subprocess.DEVNULL, capture_output=True,
@@ -629,7 +629,8 @@ def what_is_awaited_on_a_terminal(trial):
     scope = b"arrangements listed 1, symmetries named 0: there is no other\n"
     for words, documents, given in (
             ("", of_three, joined), ("explain", of_three, joined), ("count", of_three, joined),
-            ("expand --orbits", of_three, joined), ("explain -", b"a puzzle", SMALL), ("count -", b"a puzzle", SMALL),
+            ("expand --orbits", of_three, joined), ("page", of_three, joined),
+            ("explain -", b"a puzzle", SMALL), ("count -", b"a puzzle", SMALL),
             ("symmetries -", b"a puzzle", SMALL), ("show -", b"a puzzle", SMALL),
             ("show - list", b"a puzzle", SMALL), ("draw puzzle -", b"a list", SMALL_LIST),
             ("count puzzle list -", b"a certificate", SMALL_CERTIFICATE),
@@ -747,6 +748,7 @@ def hints_on_a_terminal(trial):
     for words, always in (
             ("check none list certificate", False),
             ("expand none list certificate", False),
+            ("page none list certificate", False),
             ("solve none made made_too", False),
             ("count none list certificate", True),
             ("explain none list certificate", True),

@@ -33,7 +33,7 @@ AGAIN = "This sentence has more than a dozen words, and stands in two places for
 # What is done to a page, or to what it speaks of: a text in the place of another, or behind all; and what is told then.
 WRONG_PAGES = [
     ("crates/match_report/README.md", "# `match_report`", "# `match_reports`", "begins with another line"),
-    ("docs/ARCHITECTURE.md", "\n  8  ", "\n  0  ", "edgematch stands no higher than command_orders"),
+    ("docs/ARCHITECTURE.md", "\n  9  ", "\n  0  ", "edgematch stands no higher than command_orders"),
     ("docs/PROVED.md", "`sha2`", "`sha3`", "docs/PROVED.md: what is trusted leaves out sha2"),
     ("docs/PROVED.md", "(`run_tiles`)", "(`run_check`)", "docs/PROVED.md: the program makes no run_check"),
     ("docs/ARCHITECTURE.md", "`SearchOver::run`", "`SearchOver::new`", "solver calls SearchOver::new"),

@@ -24,6 +24,7 @@ use Rattle.command_words.specs.declared.places.TwoPlaces.{TwoPlaces}
 use Rattle.command_runs.specs.Listed.{DrawFails, DrawsListed}
 use Rattle.command_runs.specs.Pictures.{DrawsPicture, PictureFails}
 use Rattle.command_orders.specs.OrderRuns.{DocumentsOf, DrawingOf, EndsBy, ThenDone}
+use Rattle.command_runs.specs.Pages.{PageGives, PrintsPage}
 use Rattle.command_runs.specs.Printing.{Prints, PrintingFails, PrintingGives}
 use Rattle.command_runs.specs.Runs.{Runs}
 use Rattle.command_orders.specs.declared.exits.Exit.{Exit}
@@ -35,6 +36,7 @@ use Rattle.command_orders.specs.declared.place_runs.Drawing.TheVariants.{Arrange
 use Rattle.match_report.specs.declared.statuses.Status.{Status}
 use Rattle.match_report.specs.declared.statuses.Status.TheVariants as status
 use Rattle.command_runs.specs.declared.faults.RunFault.{RunFault}
+use Rattle.command_runs.specs.declared.page_runs.PagePlan.{PagePlan}
 use Rattle.command_runs.specs.declared.printing_runs.Printing.{Printing}
 use Rattle.command_runs.proofs.RunningLemmas.{ended, over}
 
@@ -55,6 +57,9 @@ check_complete texts printed s given = answers_complete (λ question answer. pri
 
 pub printing_complete : (printing : Printing) (texts : Texts) (printed : List ℕ) (s : Status) → PrintingGives printing texts printed s → status_exit s ≡ Done → SpellCompleteList texts
 printing_complete printing texts printed s given = answers_complete (λ question answer. Prints question answer printing printed) texts s given
+
+pub page_complete : (plan : PagePlan) (texts : Texts) (printed : List ℕ) (s : Status) → PageGives plan texts printed s → status_exit s ≡ Done → SpellCompleteList texts
+page_complete plan texts printed s given = answers_complete (λ question answer. PrintsPage plan texts question answer printed) texts s given
 
 -- ---- runs over files
 

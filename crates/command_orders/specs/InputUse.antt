@@ -1,7 +1,7 @@
 -- Which orders read standard input, and what the others leave of it.
 use Rattle.std.specs.Prelude.{◌≡◌, ◌||◌, Bool, true, false}
 use Rattle.command_words.specs.declared.orders.Order.{Order}
-use Rattle.command_words.specs.declared.orders.Order.TheVariants.{Joined, Check, Explain, ExplainPuzzle, Solve, Expand, Count, Census, Total, Show, Draw, Symmetries, Tiles}
+use Rattle.command_words.specs.declared.orders.Order.TheVariants.{Joined, Check, Explain, ExplainPuzzle, Solve, Expand, Count, Page, Census, Total, Show, Draw, Symmetries, Tiles}
 use Rattle.command_words.specs.declared.orders.Subject.{Subject}
 use Rattle.command_words.specs.declared.orders.Subject.TheVariants.{Board, Listed}
 use Rattle.command_words.specs.declared.places.Given.{Given}
@@ -45,6 +45,7 @@ reads_input (Explain documents) = is_given_on_input documents
 reads_input (ExplainPuzzle puzzle) = is_on_input puzzle
 reads_input (Expand order) = is_given_on_input order.given
 reads_input (Count documents) = is_given_on_input documents
+reads_input (Page order) = is_given_on_input order.given
 reads_input (Census order) = is_on_input order.puzzle
 reads_input (Total places) = are_parts_on_input places
 reads_input (Solve order) = false

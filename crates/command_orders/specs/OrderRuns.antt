@@ -5,7 +5,8 @@ use Rattle.command_words.specs.declared.orders.Extent.{Extent}
 use Rattle.command_words.specs.declared.orders.Subject.{Subject}
 use Rattle.command_words.specs.declared.orders.Subject.TheVariants.{Board, Listed}
 use Rattle.command_words.specs.declared.orders.Order.{Order}
-use Rattle.command_words.specs.declared.orders.Order.TheVariants.{Joined, Check, Explain, ExplainPuzzle, Solve, Expand, Count, Census, Total, Show, Draw, Symmetries, Tiles}
+use Rattle.command_words.specs.declared.orders.PageOrder.{PageOrder}
+use Rattle.command_words.specs.declared.orders.Order.TheVariants.{Joined, Check, Explain, ExplainPuzzle, Solve, Expand, Count, Page, Census, Total, Show, Draw, Symmetries, Tiles}
 use Rattle.byte_streams.specs.Documents.{Texts}
 use Rattle.byte_streams.specs.Moves.{Writing, reading_of}
 use Rattle.byte_streams.specs.Origins.{Origin, joined_source, no_source}
@@ -21,6 +22,7 @@ use Rattle.command_runs.specs.Describing.{Describes, DescribeFails}
 use Rattle.command_orders.specs.Exits.{status_exit}
 use Rattle.command_orders.specs.FileOrigins.{one_file}
 use Rattle.command_runs.specs.Listed.{DrawFails, DrawsListed}
+use Rattle.command_runs.specs.Pages.{PageGives}
 use Rattle.command_runs.specs.Pictures.{DrawsPicture, PictureFails}
 use Rattle.command_runs.specs.Printing.{PrintingFails, PrintingGives}
 use Rattle.command_runs.specs.Runs.{Runs}
@@ -40,6 +42,7 @@ use Rattle.command_runs.specs.Totals.{TotalFails, TotalGives}
 use Rattle.command_runs.specs.Tiles.{TileLinesGive, TilesFail, TilesGive}
 use Rattle.command_runs.specs.declared.description_runs.Description.{Description}
 use Rattle.command_runs.specs.declared.description_runs.Description.TheVariants as descriptions
+use Rattle.command_runs.specs.declared.page_runs.PagePlan.{PagePlan}
 use Rattle.command_runs.specs.declared.printing_runs.Printing.{Printing}
 use Rattle.command_runs.specs.declared.printing_runs.Printing.TheVariants as printings
 use Rattle.command_orders.specs.declared.exits.Exit.{Exit}
@@ -74,6 +77,16 @@ list_printed false = printings.All
 abbrev pub PrintingOf : Printing → Origin Texts → Writing → Result Exit RunFault → Type 0
 PrintingOf printing from output result =
     Runs from (EndsBy (PrintingGives printing)) (PrintingFails printing) (one_sink output) result
+
+-- The plan is that of the page that is ordered.
+pub record IsPlanOf (order : PageOrder) (plan : PagePlan) : Type 0 where
+  pub title : plan.title.now ≡ string_bytes order.title
+  pub first : plan.first ≡ order.first
+
+-- What a check comes to that prints a page by this plan.
+abbrev pub PageOf : PagePlan → Origin Texts → Writing → Result Exit RunFault → Type 0
+PageOf plan from output result =
+    Runs from (EndsBy (PageGives plan)) (PrintingFails printings.Count) (one_sink output) result
 
 -- What a check of three documents comes to, by what it prints.
 abbrev pub DocumentsOf : DocumentsPlan → Origin Texts → Writing → Result Exit RunFault → Type 0
@@ -160,6 +173,10 @@ module _ {S R W I : Type 0} (system : FileMembers S R W) (source : SourceMembers
       RunOf (Count documents) result =
           (new ≡ old)
           × PrintingOf printings.Count (given_documents system source old input given later documents) output result
+      RunOf (Page order) result =
+          (new ≡ old)
+          × (plan : PagePlan) × IsPlanOf order plan
+          × PageOf plan (given_documents system source old input given later order.given) output result
       RunOf (Census order) result =
           (new ≡ old)
           × CensusOf order.extent (one_place system source old input given later order.puzzle) output result

@@ -7,7 +7,7 @@ ghost use Rattle.byte_streams.specs.Origins.{one_source};
 ghost use Rattle.byte_streams.specs.declared.faults.Document.TheVariants as documents;
 ghost use Rattle.command_orders.specs.FileOrigins.{one_file};
 ghost use Rattle.command_orders.specs.InputUse.{LeavesInput, are_parts_on_input, is_subject_on_input};
-ghost use Rattle.command_orders.specs.OrderRuns.{PictureOf, RunOver, ShowOf, SolveOf, TilesOf, TotalOf};
+ghost use Rattle.command_orders.specs.OrderRuns.{IsPlanOf, PictureOf, RunOver, ShowOf, SolveOf, TilesOf, TotalOf};
 ghost use Rattle.command_orders.specs.OrderRuns.{list_printed};
 ghost use Rattle.command_orders.specs.PartFiles.{given_parts, part_files};
 ghost use Rattle.command_runs.specs.Runs.{unhinted};
@@ -20,7 +20,7 @@ use crate::made_files::{make_files, not_put, replaced};
 use crate::part_files::PartFiles;
 use crate::place_runs::{
     AnswerPlan, DescriptionOrder, DocumentsOrder, DocumentsPlan, Drawing, DrawingOrder, count,
-    describe, draw,
+    describe, draw, publish,
 };
 use crate::progress::SolveProgress;
 use crate::streams::Streams;
@@ -29,12 +29,12 @@ use byte_streams::{
     settle,
 };
 use command_runs::{
-    CheckPlan, Description, HintedFault, PicturePlan, Printing, PrintingPlan, RunFault, SearchPlan,
-    Watched, run_solve_watched, run_tile_lines, run_tiles, run_total,
+    CheckPlan, Description, HintedFault, PagePlan, PicturePlan, Printing, PrintingPlan, RunFault,
+    SearchPlan, Watched, run_solve_watched, run_tile_lines, run_tiles, run_total,
 };
 use command_words::{
-    CheckOrder, DrawOrder, ExpandOrder, Files, Given, Order, PartPlaces, SolveOrder, Subject,
-    TilesOrder,
+    CheckOrder, DrawOrder, ExpandOrder, Files, Given, Order, PageOrder, PartPlaces, SolveOrder,
+    Subject, TilesOrder,
 };
 use match_limits::{Colours, Forks, Sides, Workers};
 use std::alloc::Global;
@@ -101,6 +101,19 @@ pub fn run_order<
         Order::Count(given) => {
             let order = DocumentsOrder::new(rt, alloc, DocumentsPlan::Printing(COUNT));
             order.run(given, system, streams.input, streams.output)
+        }
+        Order::Page(order) => {
+            let plan = page_plan(order, is_watched);
+            let given = &order.given;
+            publish(
+                rt,
+                alloc,
+                &plan,
+                given,
+                system,
+                streams.input,
+                streams.output,
+            )
         }
         Order::Census(order) => count(rt, alloc, order, system, streams.input, streams.output),
         Order::Total(parts) => add_up(alloc, parts, system, streams.input, streams.output),
@@ -275,6 +288,17 @@ fn listing_of(orbits: bool) -> Printing
         Printing::Orbits
     } else {
         Printing::All
+    }
+}
+
+// The page that is ordered.
+fn page_plan(order: &PageOrder, is_watched: bool) -> PagePlan<'_>
+    ensures { IsPlanOf order.now result }
+{
+    PagePlan {
+        title: &order.title,
+        first: order.first,
+        hints: are_told(order.hints, is_watched),
     }
 }
 

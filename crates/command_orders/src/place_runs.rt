@@ -6,7 +6,8 @@ ghost use Rattle.byte_streams.specs.Origins.{one_source, two_sources};
 ghost use Rattle.byte_streams.specs.declared.faults.Document.TheVariants as documents;
 ghost use Rattle.command_orders.specs.InputUse.{LeavesInput, is_given_on_input, is_on_input};
 ghost use Rattle.command_orders.specs.InputUse.{is_one_of_two_on_input};
-ghost use Rattle.command_orders.specs.OrderRuns.{CensusOf, CheckOf, DescriptionOf, DocumentsOf, DrawingOf, PrintingOf};
+ghost use Rattle.command_orders.specs.OrderRuns.{CensusOf, CheckOf, DescriptionOf, DocumentsOf, DrawingOf};
+ghost use Rattle.command_orders.specs.OrderRuns.{PageOf, PrintingOf};
 ghost use Rattle.command_orders.specs.PlaceOrigins.{given_documents, one_place, two_places};
 ghost use Rattle.command_runs.specs.Runs.{unhinted};
 
@@ -16,8 +17,9 @@ use crate::given_inputs::{GivenInputs, open_given};
 use crate::progress::{CensusProgress, CheckProgress};
 use byte_streams::{Document, FileSystem, Inputs, OneSink, OwnedDocuments, Sink, Source};
 use command_runs::{
-    CensusPlan, CheckPlan, Description, HintedFault, PicturePlan, PrintingPlan, Watched,
-    run_census, run_check_watched, run_description, run_listed, run_picture, run_printing,
+    CensusPlan, CheckPlan, Description, HintedFault, PagePlan, PicturePlan, PrintingPlan, Watched,
+    run_census, run_check_watched, run_description, run_listed, run_page, run_picture,
+    run_printing,
 };
 use command_words::{CensusOrder, Given, Place, TwoPlaces};
 use match_limits::ArrangementNumber;
@@ -311,6 +313,47 @@ impl<'a, R: Threads + Sync + RandomSource + Clock + Eprint> DocumentsOrder<'a, R
         let status = run_printing(self.rt, self.alloc, plan, inputs, &mut outputs)?;
         Ok(Exit::of_status(status))
     }
+}
+
+// Checks the documents that are given in this way, and prints the page of a complete list. Opens all files before
+// anything is read.
+pub(crate) fn publish<S: FileSystem, I: Source, W: Sink, R: RandomSource>(
+    rt: &R,
+    alloc: Global,
+    plan: &PagePlan<'_>,
+    given: &Given,
+    system: &S,
+    input: &mut I,
+    output: &mut W,
+) -> Result<Exit, HintedFault>
+    ensures run { PageOf plan.now
+        (given_documents S.FileSystem S.Reader.Source system.now I.Source input.old input.new given.now)
+        (writing_of W.Sink output.old output.new) (unhinted result) }
+    ensures unread { LeavesInput (is_given_on_input given.now) input.old input.new }
+{
+    let mut readers = open_given(alloc, system, given)?;
+    let mut inputs = GivenInputs {
+        input,
+        readers: &mut readers,
+    };
+    print_page(rt, alloc, plan, &mut inputs, output)
+}
+
+// Prints the page of the documents that these inputs have.
+fn print_page<N: Inputs<Texts = OwnedDocuments>, W: Sink, R: RandomSource>(
+    rt: &R,
+    alloc: Global,
+    plan: &PagePlan<'_>,
+    inputs: &mut N,
+    output: &mut W,
+) -> Result<Exit, HintedFault>
+    ensures same { N.same inputs.old inputs.new }
+    ensures run { PageOf plan.now (N.reads inputs.old inputs.new) (writing_of W.Sink output.old output.new)
+        (unhinted result) }
+{
+    let mut outputs = OneSink { sink: output };
+    let status = run_page(rt, alloc, plan, inputs, &mut outputs)?;
+    Ok(Exit::of_status(status))
 }
 
 // Where a list is complete and somebody watches on a terminal, says what the listed arrangements stand for.

@@ -16,8 +16,8 @@ use crate::streams::Streams;
 use byte_streams::{Document, FileSystem, Refusal, Sink, Source, write_whole};
 use command_runs::{HintedFault, RunFault, fault_text};
 use command_words::{
-    CensusOrder, CheckOrder, DrawOrder, ExpandOrder, Files, Given, Order, PartPlaces, Place,
-    Subject, WordsFault, order,
+    CensusOrder, CheckOrder, DrawOrder, ExpandOrder, Files, Given, Order, PageOrder, PartPlaces,
+    Place, Subject, WordsFault, order,
 };
 use std::alloc::Global;
 use std::random::RandomSource;
@@ -99,6 +99,7 @@ fn is_always_told(order: &Order, fault: &RunFault) -> bool {
         Order::Check(order) => order.hints,
         Order::Solve(order) => order.hints,
         Order::Expand(order) => order.hints,
+        Order::Page(order) => order.hints,
         Order::Explain(_) | Order::ExplainPuzzle(_) | Order::Count(_) | Order::Census(_) => {
             is_of_texts(fault)
         }
@@ -160,6 +161,7 @@ fn file_of<'a>(order: &'a Order, document: Document) -> Option<&'a str> {
         Order::Joined => None,
         Order::Check(CheckOrder { given, .. })
         | Order::Expand(ExpandOrder { given, .. })
+        | Order::Page(PageOrder { given, .. })
         | Order::Explain(given)
         | Order::Count(given) => file_of_given(given, document),
         Order::Solve(order) => Some(name_in(&order.files, document)),
@@ -220,6 +222,7 @@ fn read_from_input(order: &Order) -> Option<&'static str> {
         Order::Joined => Some(ALL_THREE),
         Order::Check(CheckOrder { given, .. })
         | Order::Expand(ExpandOrder { given, .. })
+        | Order::Page(PageOrder { given, .. })
         | Order::Explain(given)
         | Order::Count(given) => given_on_input(given),
         Order::ExplainPuzzle(place)

@@ -18,12 +18,15 @@ use Rattle.match_text.specs.Puzzles.{PuzzleReads}
 use Rattle.command_runs.specs.FaultText.{run_of_certificate, run_of_list}
 use Rattle.byte_streams.specs.Documents.{Texts}
 use Rattle.command_runs.specs.Checking.{CheckFails, Spells}
+use Rattle.command_runs.specs.Pages.{IsPagePrinted, PageGives}
 use Rattle.command_runs.specs.Printing.{IsPrinted, PrintingFails, PrintingGives, QuestionFails}
 use Rattle.command_runs.specs.Runs.{IsOfTexts, MadeOf}
 use Rattle.match_report.specs.declared.statuses.Status.{Status}
 use Rattle.command_runs.specs.declared.faults.RunFault.{RunFault}
 use Rattle.command_runs.specs.declared.faults.RunFault.TheVariants as runs
+use Rattle.command_runs.specs.declared.page_runs.PagePlan.{PagePlan}
 use Rattle.command_runs.specs.declared.printing_runs.Printing.{Printing}
+use Rattle.command_runs.specs.declared.printing_runs.Printing.TheVariants as printings
 
 -- where a certificate is given, the text says what it is made of
 pub certificate_said : (c : Contents) (outcome : Result Said TextFault) → CertificateGives (Ok c) outcome → (said : Said) × (outcome ≡ Ok said) × Makes said (Ok c)
@@ -108,3 +111,17 @@ printed_of printing texts question spelled (Ok made) printed = record {
   ends = printed.ends;
 }
 printed_of printing texts question spelled (Err fault) failed = (question_fails printing texts question spelled fault failed.0, failed.1)
+
+-- a page of the question that texts spell is one of theirs
+pub page_printed_of : (plan : PagePlan) (texts : Texts) (question : Question) → Spells texts question → (result : Result (List ℕ × Status) RunFault)
+    → MadeOf (IsPagePrinted texts plan) (QuestionFails printings.Count) question result → MadeOf (PageGives plan) (PrintingFails printings.Count) texts result
+page_printed_of plan texts question spelled (Ok made) printed = record {
+  question = question;
+  answer = printed.answer;
+  spelled = spelled;
+  answered = printed.answered;
+  sound = printed.sound;
+  is = printed.is;
+  ends = printed.ends;
+}
+page_printed_of plan texts question spelled (Err fault) failed = (question_fails printings.Count texts question spelled fault failed.0, failed.1)

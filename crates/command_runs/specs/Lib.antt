@@ -3,6 +3,7 @@ pub mod Checking
 pub mod Describing
 pub mod FaultText
 pub mod Listed
+pub mod Pages
 pub mod Pictures
 pub mod Printing
 pub mod Runs

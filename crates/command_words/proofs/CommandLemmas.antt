@@ -65,6 +65,20 @@ expand_orbits rows m = has_flag (command_at (codes "expand")) rows (rule_at (com
 pub expand_hints : (rows : List Row) → AreMatchesOf (codes "expand") rows → HasFlag (codes "hints") rows
 expand_hints rows m = has_flag (command_at (codes "expand")) rows (rule_at (command_at (codes "expand")) 4) (expand_needed rows m) refl refl refl
 
+-- ---- `page`
+
+page_needed : (rows : List Row) → AreMatchesOf (codes "page") rows → HasNeeded (command_at (codes "page")) rows
+page_needed rows m = needed (codes "page") rows m refl
+
+pub page_title : (rows : List Row) → AreMatchesOf (codes "page") rows → HasText (codes "title") rows
+page_title rows m = has_text (command_at (codes "page")) rows (codes "title") (page_needed rows m) refl
+
+pub page_first : (rows : List Row) → AreMatchesOf (codes "page") rows → HasNumber (codes "first") 0 100 rows
+page_first rows m = has_number (command_at (codes "page")) rows (rule_at (command_at (codes "page")) 4) 0 100 (page_needed rows m) refl refl refl
+
+pub page_hints : (rows : List Row) → AreMatchesOf (codes "page") rows → HasFlag (codes "hints") rows
+page_hints rows m = has_flag (command_at (codes "page")) rows (rule_at (command_at (codes "page")) 5) (page_needed rows m) refl refl refl
+
 -- ---- `count`
 
 count_needed : (rows : List Row) → AreMatchesOf (codes "count") rows → HasNeeded (command_at (codes "count")) rows

@@ -74,6 +74,7 @@ no_total rows nowhere (orders.Explain given) is = differ (codes "total") (codes 
 no_total rows nowhere (orders.ExplainPuzzle puzzle) is = differ (codes "total") (codes "explain") refl is.0
 no_total rows nowhere (orders.Solve order) is = differ (codes "total") (codes "solve") refl is.0
 no_total rows nowhere (orders.Expand order) is = differ (codes "total") (codes "expand") refl is.0
+no_total rows nowhere (orders.Page order) is = differ (codes "total") (codes "page") refl is.0
 no_total rows nowhere (orders.Count given) is = differ (codes "total") (codes "count") refl is.0
 no_total rows nowhere (orders.Census order) is = differ (codes "total") (codes "count") refl is.0
 no_total rows nowhere (orders.Total places) is = nowhere places is.1

@@ -39,9 +39,9 @@ optional_number id least most default =
 abbrev pub optional_text : Text → Rule
 optional_text id = record (new_rule id) { long = Some id; value_names = 1 }
 
--- a word behind an option of this name, which is `default` where the option isn't given
-abbrev pub optional_choice : Text → Text → Rule
-optional_choice id default = record (optional_text id) { defaults = default ∷ [] }
+-- a text behind an option of this name, which is `default` where the option isn't given
+abbrev pub text_or_default : Text → Text → Rule
+text_or_default id default = record (optional_text id) { defaults = default ∷ [] }
 
 -- a number of 64 bits behind an option of this name
 abbrev pub optional_bound : Text → Rule
@@ -86,13 +86,21 @@ solve_app =
     (optional_number (codes "depth") 0 MOST_DEPTH (codes "1")
     ∷ optional_number (codes "fuel") 1 MOST_FUEL (codes "1000000")
     ∷ optional_number (codes "workers") 1 MOST_WORKERS (codes "1")
-    ∷ optional_choice (codes "symmetries") (codes "all")
+    ∷ text_or_default (codes "symmetries") (codes "all")
     ∷ flag (codes "progress")
     ∷ flag (codes "hints")
     ∷ [])
 
 abbrev pub expand_app : App
 expand_app = with_rules (with_places (new_app (codes "expand"))) (flag (codes "orbits") ∷ flag (codes "hints") ∷ [])
+
+abbrev pub page_app : App
+page_app =
+    with_rules (with_places (new_app (codes "page")))
+    (text_or_default (codes "title") (codes "An edge-matching puzzle")
+    ∷ optional_number (codes "first") 0 MOST_DRAWN (codes "24")
+    ∷ flag (codes "hints")
+    ∷ [])
 
 abbrev pub count_app : App
 count_app =
@@ -135,6 +143,7 @@ commands =
     ∷ explain_app
     ∷ solve_app
     ∷ expand_app
+    ∷ page_app
     ∷ count_app
     ∷ total_app
     ∷ show_app

@@ -16,7 +16,7 @@ use Rattle.command_words.specs.declared.places.Files.{Files}
 use Rattle.command_words.specs.declared.orders.Subject.{Subject}
 use Rattle.command_words.specs.declared.orders.Subject.TheVariants.{Board, Listed}
 use Rattle.command_words.specs.declared.orders.Order.{Order}
-use Rattle.command_words.specs.declared.orders.Order.TheVariants.{Joined, Check, Explain, ExplainPuzzle, Solve, Expand, Count, Census, Total, Show, Draw, Symmetries, Tiles}
+use Rattle.command_words.specs.declared.orders.Order.TheVariants.{Joined, Check, Explain, ExplainPuzzle, Solve, Expand, Page, Count, Census, Total, Show, Draw, Symmetries, Tiles}
 use Rattle.command_words.specs.Commands.{whole_app}
 use Rattle.command_words.specs.Parts.{IsPartsText}
 use Rattle.match_symmetry.specs.declared.choices.Suggested.{Suggested}
@@ -158,6 +158,9 @@ IsOrderOf (Some (name, rows)) (Solve order) =
 IsOrderOf (Some (name, rows)) (Expand order) =
     (name ≡ codes "expand") × IsGiven rows order.given × IsFlagged (codes "orbits") rows order.orbits
     × IsFlagged (codes "hints") rows order.hints
+IsOrderOf (Some (name, rows)) (Page order) =
+    (name ≡ codes "page") × IsGiven rows order.given × (first_of (codes "title") rows ≡ Some (string_bytes order.title))
+    × (number_of (codes "first") rows ≡ Some order.first) × IsFlagged (codes "hints") rows order.hints
 IsOrderOf (Some (name, rows)) (Count given) = (name ≡ codes "count") × IsGiven rows given × IsExtent rows extents.All
 IsOrderOf (Some (name, rows)) (Census order) =
     (name ≡ codes "count") × NamesPuzzle rows order.puzzle × IsExtent rows order.extent

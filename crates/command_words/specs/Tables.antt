@@ -18,7 +18,7 @@ abbrev pub of_kind : Kind → Text → Rule → Rule
 of_kind (kinds.Word is_wanted) id rule = record rule { required = is_wanted }
 of_kind kinds.Words id rule = record rule { required = true; action = Some Append }
 of_kind (kinds.Option value) id rule = record rule { long = Some id; value_names = 1 }
-of_kind (kinds.Choice value default) id rule =
+of_kind (kinds.TextOption value default) id rule =
     record rule { long = Some id; value_names = 1; defaults = default.now ∷ [] }
 of_kind kinds.Flag id rule = record rule { long = Some id; action = Some SetTrue }
 

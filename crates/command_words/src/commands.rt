@@ -3,7 +3,7 @@
 ghost use Rattle.std.specs.Prelude.{◌≡◌, ◌∷◌, [], IfOk};
 ghost use Rattle.clap.specs.Words.{App, app_of, with_subcommand};
 ghost use Rattle.command_words.specs.Commands.{bare_app, check_app, count_app, draw_app, expand_app, explain_app};
-ghost use Rattle.command_words.specs.Commands.{show_app, solve_app, symmetries_app, tiles_app, total_app};
+ghost use Rattle.command_words.specs.Commands.{page_app, show_app, solve_app, symmetries_app, tiles_app, total_app};
 ghost use Rattle.command_words.specs.Commands.{whole_app, with_commands};
 ghost use Rattle.command_words.specs.Tables.{IsArgOf, IsCommandAs, IsNumbered, IsOfKind, app_by};
 
@@ -22,9 +22,9 @@ const VERSION: &str = "0.1.0 (proved with rattle-kit-13f logic dac8208d650f15bf)
 
 const WITHOUT_COMMAND: &str = "\
 Without a command it reads a puzzle, a list and a certificate from standard input, one after the other, and \
-checks them. check, explain, count and expand read the three from there too where no file is named. One \
-document that a command reads may be named -, which is standard input; ./- is a file of that name. But solve \
-reads its puzzle from a file.
+checks them. check, explain, expand, page and count read the three from there too where no file is named. \
+One document that a command reads may be named -, which is standard input; ./- is a file of that name. But \
+solve reads its puzzle from a file.
 
 Exit status:
   0  done; for a check, the list is complete
@@ -106,6 +106,29 @@ Exit status:
 
 Example:
   edgematch expand puzzle list certificate";
+
+const PUBLISHED: &str = "\
+Prints one HTML file that publishes the list, but only where the list is complete. Otherwise it prints the \
+answer of check.
+
+The page says how many arrangements there are, and has pictures of the first that are listed. It holds the \
+three texts, each with its SHA-256, and a checker that runs in the reader's browser. That is a second \
+opinion, which isn't proved. A text of more than 4 MiB (4,194,304 bytes) isn't in the page: publish its file \
+beside the page, and the reader chooses it there.
+
+--title gives the heading of the page, and --first how many of the listed arrangements a sheet shows. With 0 \
+or 1 there is no sheet.
+
+Without files it reads the puzzle, the list and the certificate from standard input, one after the other. A \
+file that is named - is standard input.
+
+Exit status:
+  0  the list is complete, and the page is printed
+  1  the certificate does not show that the list is complete
+  2  anything else; standard error says what
+
+Example:
+  edgematch page puzzle list certificate --title \"Nine cards\" > page.html";
 
 const EXPLAINED: &str = "\
 Prints the answer of check. Where the list is refused, it also says why: a sentence, the line and the word \
@@ -249,9 +272,9 @@ enum Kind {
     Option {
         value: &'static str,
     },
-    // By an option with its name, followed by one of several words; without the option it is the default. Help names
-    // the word in this way.
-    Choice {
+    // By an option with its name, followed by a text; without the option it is the default. Help names the text in
+    // this way.
+    TextOption {
         value: &'static str,
         default: &'static str,
     },
@@ -397,7 +420,7 @@ const FUEL: Argument = Argument {
 
 const SUGGESTED: Argument = Argument {
     id: "symmetries",
-    kind: Kind::Choice {
+    kind: Kind::TextOption {
         value: "WHICH",
         default: "all",
     },
@@ -410,6 +433,27 @@ const ORBITS: Argument = Argument {
     kind: Kind::Flag,
     number: None,
     help: "Prints only one arrangement of each orbit",
+};
+
+const TITLE: Argument = Argument {
+    id: "title",
+    kind: Kind::TextOption {
+        value: "T",
+        default: "An edge-matching puzzle",
+    },
+    number: None,
+    help: "The heading of the page",
+};
+
+const SHEET: Argument = Argument {
+    id: "first",
+    kind: Kind::Option { value: "N" },
+    number: Some(Number {
+        least: 0,
+        most: MOST_DRAWN as u64,
+        default: Some("24"),
+    }),
+    help: "How many of the listed arrangements a sheet shows, 0 to 100; 0 or 1 for no sheet",
 };
 
 const MOST: Argument = Argument {
@@ -555,6 +599,13 @@ const EXPAND: CommandTable = CommandTable {
     help: EXPANDED,
 };
 
+const PAGE: CommandTable = CommandTable {
+    name: "page",
+    about: "Checks a list, and prints a page (HTML) that publishes it",
+    arguments: &[ANY_PUZZLE, ANY_LIST, ANY_CERTIFICATE, TITLE, SHEET, HINTS],
+    help: PUBLISHED,
+};
+
 const COUNT: CommandTable = CommandTable {
     name: "count",
     about: "Counts the arrangements of a puzzle, by a search or by a list that is checked",
@@ -613,7 +664,9 @@ fn with_kind<'a>(arg: Arg<'a>, id: &'a str, kind: Kind) -> Arg<'a>
         Kind::Word { is_wanted } => arg.required(is_wanted),
         Kind::Words => arg.required(true).action(ArgAction::Append),
         Kind::Option { value } => arg.long(id).value_name(value),
-        Kind::Choice { value, default } => arg.long(id).value_name(value).default_value(default),
+        Kind::TextOption { value, default } => {
+            arg.long(id).value_name(value).default_value(default)
+        }
         Kind::Flag => arg.long(id).action(ArgAction::SetTrue),
     }
 }
@@ -692,6 +745,12 @@ pub(crate) fn expand<'a>(alloc: Global) -> Result<Command<'a>, AllocError>
     command_of(alloc, &EXPAND)
 }
 
+pub(crate) fn page<'a>(alloc: Global) -> Result<Command<'a>, AllocError>
+    ensures { IfOk result (IsCommandAs page_app) }
+{
+    command_of(alloc, &PAGE)
+}
+
 pub(crate) fn count<'a>(alloc: Global) -> Result<Command<'a>, AllocError>
     ensures { IfOk result (IsCommandAs count_app) }
 {
@@ -747,12 +806,14 @@ fn with_list_commands<'a>(
 ) -> Result<Command<'a>, AllocError>
     ensures { (before : App) → IfOk program.entry (λ c. app_of c ≡ before)
         → IfOk result (λ c. app_of c
-        ≡ with_commands before (check_app ∷ explain_app ∷ solve_app ∷ expand_app ∷ count_app ∷ total_app ∷ [])) }
+        ≡ with_commands before
+        (check_app ∷ explain_app ∷ solve_app ∷ expand_app ∷ page_app ∷ count_app ∷ total_app ∷ [])) }
 {
     let program = with_command(program, check(alloc));
     let program = with_command(program, explain(alloc));
     let program = with_command(program, solve(alloc));
     let program = with_command(program, expand(alloc));
+    let program = with_command(program, page(alloc));
     let program = with_command(program, count(alloc));
     with_command(program, total(alloc))
 }

@@ -9,8 +9,8 @@ mod readings;
 
 pub use faults::WordsFault;
 pub use orders::{
-    CensusOrder, CheckOrder, DrawOrder, ExpandOrder, Extent, Order, Parts, SolveOrder, Subject,
-    TilesOrder,
+    CensusOrder, CheckOrder, DrawOrder, ExpandOrder, Extent, Order, PageOrder, Parts, SolveOrder,
+    Subject, TilesOrder,
 };
 pub use places::{Files, Given, PartPlaces, Place, Places, TwoPlaces};
 pub use readings::order;

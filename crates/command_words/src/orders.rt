@@ -106,6 +106,18 @@ pub struct ExpandOrder {
     pub hints: bool,
 }
 
+/// A check of a puzzle, a list and a certificate, which prints a page (HTML) that publishes them.
+#[derive(Drop)]
+pub struct PageOrder {
+    pub given: Given,
+    /// The page's heading.
+    pub title: String,
+    /// How many of the listed arrangements a sheet shows.
+    pub first: Drawn,
+    /// Whether it says what has to be changed in a text that has a fault, even where no terminal shows it.
+    pub hints: bool,
+}
+
 /// A search that counts arrangements of the puzzle at a place.
 #[derive(Drop)]
 pub struct CensusOrder {
@@ -152,6 +164,8 @@ pub enum Order {
     Solve(SolveOrder),
     /// Check documents, and print all arrangements, or one of each orbit.
     Expand(ExpandOrder),
+    /// Check documents, and print a page that publishes them.
+    Page(PageOrder),
     /// Check the documents that are given in this way, and count all arrangements.
     Count(Given),
     /// Count arrangements of a puzzle by a search.

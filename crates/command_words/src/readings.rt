@@ -20,13 +20,13 @@ ghost use Rattle.match_symmetry.specs.declared.choices.Suggested.{Suggested};
 
 use crate::commands::{
     check as check_command, count as count_command, draw as draw_command, expand as expand_command,
-    explain as explain_command, program, show as show_command, solve as solve_command,
-    total as total_command,
+    explain as explain_command, page as page_command, program, show as show_command,
+    solve as solve_command, total as total_command,
 };
 use crate::faults::WordsFault;
 use crate::orders::{
-    CensusOrder, CheckOrder, DrawOrder, ExpandOrder, Extent, Order, Parts, SolveOrder, Subject,
-    TilesOrder,
+    CensusOrder, CheckOrder, DrawOrder, ExpandOrder, Extent, Order, PageOrder, Parts, SolveOrder,
+    Subject, TilesOrder,
 };
 use crate::places::{Files, Given, PartPlaces, Place, Places, TwoPlaces};
 use clap::error::ErrorKind;
@@ -320,6 +320,26 @@ fn expand(alloc: Global, matches: &ArgMatches<'_>) -> Result<Order, WordsFault>
     }))
 }
 
+fn page(alloc: Global, matches: &ArgMatches<'_>) -> Result<Order, WordsFault>
+    requires { AreMatchesOf (codes "page") (rows_of (found_of matches.now)) }
+    ensures order { IfOk result (IsOrderOf (Some (codes "page", rows_of (found_of matches.now)))) }
+    ensures refused { IfErr result (IsMisfit (Some (codes "page", rows_of (found_of matches.now)))) }
+{
+    let given = match three_documents(alloc, matches)? {
+        Ok(given) => given,
+        Err(reason) => return Err(misfit(page_command(alloc), "edgematch page", reason)),
+    };
+    let title = text(alloc, matches, "title")?;
+    let first = number(matches, "first");
+    let hints = flag(matches, "hints");
+    Ok(Order::Page(PageOrder {
+        given,
+        title,
+        first,
+        hints,
+    }))
+}
+
 // Explains three documents, or a puzzle where it is alone.
 fn explain(alloc: Global, matches: &ArgMatches<'_>) -> Result<Order, WordsFault>
     ensures order { IfOk result (IsOrderOf (Some (codes "explain", rows_of (found_of matches.now)))) }
@@ -587,6 +607,7 @@ fn order_of(alloc: Global, name: &str, matches: &ArgMatches<'_>) -> Result<Order
         "explain" => explain(alloc, matches),
         "solve" => solve(alloc, matches),
         "expand" => expand(alloc, matches),
+        "page" => page(alloc, matches),
         "count" => count(alloc, matches),
         "total" => total(alloc, matches),
         "show" => show(alloc, matches),

@@ -4,7 +4,6 @@ use Rattle.match_limits.specs.declared.TheConstants.{MOST_ARRANGEMENTS}
 use Rattle.match_limits.specs.declared.ranges.TheConstants.{SECOND}
 use Rattle.match_limits.proofs.ListLemmas.{contains_at, contains_none, mapped_at, place_of}
 use Rattle.std.specs.List.{AllByRecursion}
-use Rattle.std.proofs.lemmas.List.{length-map}
 use Rattle.match_puzzle.specs.Puzzle.{Task, IsPuzzle}
 use Rattle.match_puzzle.specs.Arrangement.{IsArrangement}
 use Rattle.match_puzzle.specs.declared.placements.Placement.{Placement}
@@ -126,9 +125,6 @@ module _ (question : Question) (puzzle : IsPuzzle question.puzzle) (complete : I
   -- What is said of what was read is said of the question.
   pub said_of_question : (P : Task → List SymmetryLine → List (List Placement) → Type 0) → P p (map line_of motions) listed → P question.puzzle question.symmetries question.listed
   said_of_question P said = subst (P question.puzzle question.symmetries) same_listed (subst (λ (lines : List SymmetryLine). P question.puzzle lines listed) same_lines (subst (λ (q : Task). P q (map line_of motions) listed) same_puzzle said))
-
-  pub so_many_symmetries : length motions ≡ length question.symmetries
-  so_many_symmetries = sym (length-map motions line_of) ∙ ap length same_lines
 
   -- The first of each orbit can be listed.
   pub firsts_within : (firsts : List (List Placement)) → AreOneOfEachOrbit p (map line_of motions) listed firsts → length firsts ≤ MOST_ARRANGEMENTS → IsListWithin SECOND firsts

@@ -65,6 +65,29 @@ pub fn write_orbits<S: BuildHasher + Copy + Drop>(
     Ok(text)
 }
 
+/// Counts, by a complete list, how many arrangements, pictures and orbits the puzzle has. Arrangements that look the same
+/// at each cell are one picture, and those that symmetries take into each other are one orbit.
+///
+/// `TooMany` comes only where over 1,000,000 are listed, or are in one orbit, and `Memory` where memory is refused.
+pub fn count_complete<S: BuildHasher + Copy + Drop>(
+    alloc: Global,
+    prepared: &Prepared<'_>,
+    hasher: S,
+) -> Result<Count, ExpandFault>
+    requires { IsCompleteList prepared.now.puzzle prepared.now.symmetries prepared.now.listed }
+    ensures count { IfOk result (IsCountOf prepared.now) }
+    ensures too_many { IsErrOf result ExpandFault.TooMany
+        → AreMoreListedOrInOrbit MOST_ARRANGEMENTS prepared.now.puzzle prepared.now.symmetries prepared.now.listed }
+{
+    let question = prepared.question();
+    let puzzle = question.puzzle();
+    let listed = question.listed();
+    let symmetries = prepared.symmetries();
+    let counted = count(alloc, puzzle, listed, symmetries, hasher)?;
+    counting_laws();
+    Ok(counted)
+}
+
 /// Writes, from a complete list, how many arrangements, pictures and orbits the puzzle has, and how many symmetries the
 /// certificate names: a line for each. Arrangements that look the same at each cell are one picture, and those that
 /// symmetries take into each other are one orbit.
@@ -81,13 +104,9 @@ pub fn write_counts<S: BuildHasher + Copy + Drop>(
     ensures too_many { IsErrOf result ExpandFault.TooMany
         → AreMoreListedOrInOrbit MOST_ARRANGEMENTS prepared.now.puzzle prepared.now.symmetries prepared.now.listed }
 {
-    let question = prepared.question();
-    let puzzle = question.puzzle();
-    let listed = question.listed();
-    let symmetries = prepared.symmetries();
-    let counted = count(alloc, puzzle, listed, symmetries, hasher)?;
-    counting_laws();
-    let text = count_lines(alloc, counted, symmetries.len() as u64)?;
+    let counted = count_complete(alloc, prepared, hasher)?;
+    let named = prepared.question().certificate().symmetries();
+    let text = count_lines(alloc, counted, named.len() as u64)?;
     Ok(text)
 }
 

@@ -10,7 +10,7 @@ use crate::outcomes::with_memory;
 use byte_streams::Fake;
 use command_orders::{Exit, HintedFault, Streams, run_order};
 use command_runs::RunFault;
-use command_words::{CheckOrder, Files, Order};
+use command_words::{CheckOrder, Files, Given, Order, Place, Places};
 use match_limits::{Forks, Workers};
 use solver::SolveFault;
 use std::alloc::{AllocError, Global};
@@ -51,8 +51,13 @@ fn exit_of<R: Threads + Wait + Sync + RandomSource + Clock + Eprint>(
 {
     let mut system = *held;
     let files = files_of(held.alloc, "p", "l", "c")?;
+    let places = Places {
+        puzzle: Place::File(files.puzzle),
+        list: Place::File(files.list),
+        certificate: Place::File(files.certificate),
+    };
     let order = Order::Check(CheckOrder {
-        files,
+        given: Given::Apart(places),
         workers: Workers::new(2),
         forks: Forks::new(1),
         progress: false,

@@ -14,6 +14,9 @@ solve-requires c = subst (λ name. AreMatchesOf name (rows_of (found_of c.args.m
 pub expand-requires : goal.expand-requires
 expand-requires c = subst (λ name. AreMatchesOf name (rows_of (found_of c.args.matches.now))) c.in-expand.is c.requires
 
+pub page-requires : goal.page-requires
+page-requires c = subst (λ name. AreMatchesOf name (rows_of (found_of c.args.matches.now))) c.in-page.is c.requires
+
 pub count-requires : goal.count-requires
 count-requires c = subst (λ name. AreMatchesOf name (rows_of (found_of c.args.matches.now))) c.in-count.is c.requires
 
@@ -75,6 +78,14 @@ pub returns-in-expand-clause-refused : goal.returns-in-expand-clause-refused
 returns-in-expand-clause-refused c =
     subst (λ name. IfErr c.expand.result (IsMisfit (Some (name, rows_of (found_of c.args.matches.now))))) (sym c.in-expand.is) c.expand.ensures.refused
 
+pub returns-in-page-clause-order : goal.returns-in-page-clause-order
+returns-in-page-clause-order c =
+    subst (λ name. IfOk c.page.result (IsOrderOf (Some (name, rows_of (found_of c.args.matches.now))))) (sym c.in-page.is) c.page.ensures.order
+
+pub returns-in-page-clause-refused : goal.returns-in-page-clause-refused
+returns-in-page-clause-refused c =
+    subst (λ name. IfErr c.page.result (IsMisfit (Some (name, rows_of (found_of c.args.matches.now))))) (sym c.in-page.is) c.page.ensures.refused
+
 pub returns-in-count-clause-order : goal.returns-in-count-clause-order
 returns-in-count-clause-order c =
     subst (λ name. IfOk c.count.result (IsOrderOf (Some (name, rows_of (found_of c.args.matches.now))))) (sym c.in-count.is) c.count.ensures.order
@@ -111,4 +122,4 @@ pub unreachable-requires : goal.unreachable-requires
 unreachable-requires c =
     let own = program_has c.requires.words c.requires.faultless c.args.name.now (rows_of (found_of c.args.matches.now)) c.requires.enters in
     let other : (name : Text) → c.args.name.now ≢ name → bytes_eq name c.args.name.now ≡ false = differs c.args.name.now in
-    none_is_some (rw (other (codes "check") c.in_default.not-check, other (codes "explain") c.in_default.not-explain, other (codes "solve") c.in_default.not-solve, other (codes "expand") c.in_default.not-expand, other (codes "count") c.in_default.not-count, other (codes "total") c.in_default.not-total, other (codes "show") c.in_default.not-show, other (codes "draw") c.in_default.not-draw, other (codes "symmetries") c.in_default.not-symmetries, other (codes "tiles") c.in_default.not-tiles, other (codes "help") own.no_help) at own.is_named)
+    none_is_some (rw (other (codes "check") c.in_default.not-check, other (codes "explain") c.in_default.not-explain, other (codes "solve") c.in_default.not-solve, other (codes "expand") c.in_default.not-expand, other (codes "page") c.in_default.not-page, other (codes "count") c.in_default.not-count, other (codes "total") c.in_default.not-total, other (codes "show") c.in_default.not-show, other (codes "draw") c.in_default.not-draw, other (codes "symmetries") c.in_default.not-symmetries, other (codes "tiles") c.in_default.not-tiles, other (codes "help") own.no_help) at own.is_named)
