@@ -8,7 +8,7 @@ ghost use Rattle.show_page.specs.Pictures.{IsFirstPicture, IsSheetOf};
 
 use match_limits::Drawn;
 use match_puzzle::{Arrangement, Puzzle};
-use show_pictures::{write_arrangement_picture, write_puzzle_picture, write_sheet};
+use show_pictures::{Numbering, write_arrangement_picture, write_puzzle_picture, write_sheet};
 use std::alloc::{AllocError, Global};
 
 /// The pictures that a page shows: documents of SVG.
@@ -84,5 +84,9 @@ fn sheet_of(alloc: Global, puzzle: &Puzzle, drawn: &[Arrangement]) -> Result<Vec
     if drawn.len() < 2 {
         return Ok(Vec::new(alloc));
     }
-    write_sheet(alloc, puzzle, drawn, 0)
+    let numbering = Numbering {
+        first: 0,
+        tiles: false,
+    };
+    write_sheet(alloc, puzzle, drawn, numbering)
 }

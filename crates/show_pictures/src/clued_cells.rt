@@ -9,6 +9,7 @@ use crate::bands::put_ended;
 use crate::canvases::Canvas;
 use crate::clues::clue_lines;
 use crate::elements::put_group;
+use crate::measures::size_beside_signs;
 use crate::tiles::{SIGN_LETTERS, put_disc, side_sign};
 use match_puzzle::Puzzle;
 use std::alloc::{AllocError, Global};
@@ -61,10 +62,11 @@ fn disc_lines(alloc: Global, canvas: &Canvas<'_>) -> Result<Vec<u8>, AllocError>
     requires { length canvas.now.sites.items ≡ cell_count canvas.now.puzzle.now.board }
 {
     let mut lines = Vec::new(alloc);
+    let size = size_beside_signs(canvas.puzzle.board().sides());
     for cell in 0..canvas.puzzle.board().cells() {
         if is_clued(canvas.puzzle, cell) {
             let site = canvas.sites[usize::from(cell)];
-            put_disc(&mut lines, canvas, site)?;
+            put_disc(&mut lines, canvas, site, size)?;
             lines.push(b'\n')?;
         }
     }

@@ -31,4 +31,4 @@ pub use laws::picture_laws;
 pub use listed::write_listed_picture;
 pub use pictures::{write_arrangement_picture, write_puzzle_picture};
 pub use plans::{NotDrawn, PicturePlan};
-pub use sheets::write_sheet;
+pub use sheets::{Numbering, write_sheet};

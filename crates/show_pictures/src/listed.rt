@@ -7,7 +7,7 @@ ghost use Rattle.show_pictures.specs.Listed.{IsPictureFrom, IsPictureOf};
 
 use crate::pictures::write_arrangement_picture;
 use crate::plans::{NotDrawn, PicturePlan, arrangements_to_draw};
-use crate::sheets::write_sheet;
+use crate::sheets::{Numbering, write_sheet};
 use match_puzzle::{Arrangement, Puzzle};
 use std::alloc::{AllocError, Global};
 
@@ -44,7 +44,11 @@ fn picture_of(
 {
     let number = plan.number.get();
     if plan.first.get() > 0 {
-        return write_sheet(alloc, puzzle, drawn, number);
+        let numbering = Numbering {
+            first: number,
+            tiles: plan.numbers,
+        };
+        return write_sheet(alloc, puzzle, drawn, numbering);
     }
     let placements = drawn[0].placements();
     write_arrangement_picture(alloc, puzzle, placements, number, plan.numbers)

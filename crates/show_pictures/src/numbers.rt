@@ -18,13 +18,14 @@ pub(crate) fn number(alloc: Global, number: u32, at: Point, base: u8) -> Result<
     Ok(label)
 }
 
-/// The number of the placed tile, with its middle at the point.
+/// The number of the placed tile, with its base line `base` below the point.
 pub(crate) fn tile_number(
     alloc: Global,
     placement: Placement,
     at: Point,
+    base: u8,
 ) -> Result<String, AllocError>
     ensures { IfOk result (λ label. SaysNumber placement.tile (string_bytes label)) }
 {
-    number(alloc, u32::from(placement.tile), at, 5)
+    number(alloc, u32::from(placement.tile), at, base)
 }

@@ -16,6 +16,7 @@ use crate::cells::{put_numbers, put_outlines};
 use crate::clued_cells::put_clues;
 use crate::descriptions::{describe_arrangement, describe_tiles};
 use crate::documents::{END, begin_picture, board_words};
+use crate::measures::size_beside_signs;
 use crate::signed_bands::put_bands;
 use crate::sites::{board_extent, sites_of};
 use crate::tiles::{Labels, put_tiles};
@@ -41,11 +42,7 @@ pub fn write_arrangement_picture(
     let spare = spare_tiles(alloc, puzzle, arrangement)?;
     let layout = lone_layout(puzzle, spare.len() as u16);
     let mut text = begin_arrangement(alloc, puzzle, arrangement, number, &layout)?;
-    let labels = Labels {
-        outline: 2,
-        signs: true,
-        numbers,
-    };
+    let labels = lone_labels(puzzle, numbers);
     put_full_board(alloc, &mut text, puzzle, arrangement, labels)?;
     put_spare(alloc, &mut text, puzzle, &spare, &layout)?;
     text.extend_from_slice(END)?;
@@ -255,13 +252,22 @@ fn put_below(
         left: layout.tray_left,
         top: layout.tray_top,
     };
-    let labels = Labels {
+    put_tiles(alloc, text, &below, tiles, lone_labels(puzzle, true))?;
+    Ok(())
+}
+
+// What is drawn on the tiles of a picture by itself, with numbers where they are wanted.
+fn lone_labels(puzzle: &Puzzle, numbers: bool) -> Labels {
+    let numbers = if numbers {
+        Some(size_beside_signs(puzzle.board().sides()))
+    } else {
+        None
+    };
+    Labels {
         outline: 2,
         signs: true,
-        numbers: true,
-    };
-    put_tiles(alloc, text, &below, tiles, labels)?;
-    Ok(())
+        numbers,
+    }
 }
 
 /// The sites of the puzzle's cells, on a board that is `left` away from the left edge.

@@ -16,7 +16,7 @@ pub struct PicturePlan {
     pub number: ArrangementNumber,
     /// How many to draw at most, on a sheet; or 0 to draw one by itself.
     pub first: Drawn,
-    /// Whether one by itself has the number of each tile.
+    /// Whether each tile has its number.
     pub numbers: bool,
 }
 

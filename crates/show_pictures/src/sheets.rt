@@ -9,6 +9,7 @@ use crate::canvases::Point;
 use crate::descriptions::describe_list;
 use crate::documents::{END, EvenRows, begin_picture, board_words, even_rows};
 use crate::elements::{put_group, put_numbered};
+use crate::measures::size_on_a_sheet;
 use crate::numbers::number;
 use crate::pictures::{MARGIN, draw_arrangement};
 use crate::sites::{Extent, board_extent};
@@ -23,34 +24,43 @@ const ACROSS: u16 = 5;
 
 const CAPTION: u32 = 24;
 
+/// What has a number on a sheet.
+#[derive(Clone, Copy)]
+pub struct Numbering {
+    /// The number of the first arrangement.
+    pub first: u32,
+    /// Whether each tile has its number too.
+    pub tiles: bool,
+}
+
 // How arrangements stand on a sheet.
 #[derive(Clone, Copy)]
 struct Sheet {
     first: u32,
     // that of a picture of its own
     full: Extent,
-    // how wide outlines are there: as they are to look when they are made small
-    outline: u32,
+    // what is drawn on tiles there: large enough to be seen when it is made small
+    labels: Labels,
     // that of a thumbnail
     small: Extent,
     rows: EvenRows,
 }
 
 impl Sheet {
-    // The sheet of `count` arrangements, numbered from `first` on, for a board of this extent.
-    fn new(board: Extent, first: u32, count: u16) -> Sheet
-        requires { (board.wide ≤ 2 ^ 24) × (board.high ≤ 2 ^ 24) }
-        ensures { result.first ≡ first }
+    // The sheet of `count` arrangements of the puzzle.
+    fn new(puzzle: &Puzzle, numbering: Numbering, count: u16) -> Sheet
+        ensures { result.first ≡ numbering.first }
     {
+        let board = board_extent(puzzle.board().figure());
         let full = Extent {
             wide: board.wide + 2 * MARGIN,
             high: board.high + 2 * MARGIN,
         };
         let longer = full.wide.max(full.high);
         Sheet {
-            first,
+            first: numbering.first,
             full,
-            outline: longer.div_ceil(LONGER),
+            labels: small_labels(puzzle, longer.div_ceil(LONGER), numbering.tiles),
             small: Extent {
                 wide: (LONGER * full.wide).div_ceil(longer),
                 high: (LONGER * full.high).div_ceil(longer),
@@ -69,21 +79,36 @@ impl Sheet {
     }
 }
 
-/// Up to 100 arrangements as one picture, numbered from `first` on: each small, without signs, with its number below.
+// What is drawn on the tiles of thumbnails, whose outlines are so wide, with numbers where they are wanted.
+fn small_labels(puzzle: &Puzzle, outline: u32, numbers: bool) -> Labels {
+    let numbers = if numbers {
+        Some(size_on_a_sheet(puzzle.board().sides(), puzzle.tile_count()))
+    } else {
+        None
+    };
+    Labels {
+        outline,
+        signs: false,
+        numbers,
+    }
+}
+
+/// Up to 100 arrangements as one picture: each small, without signs, with its number below; where they are wanted, with
+/// the number of each tile.
 pub fn write_sheet(
     alloc: Global,
     puzzle: &Puzzle,
     arrangements: &[Arrangement],
-    first: u32,
+    numbering: Numbering,
 ) -> Result<Vec<u8>, AllocError>
     requires some { 1 ≤ length arrangements.now }
     requires few { length arrangements.now ≤ 100 }
-    requires first { first + length arrangements.now < 2 ^ 32 }
+    requires first { numbering.first + length arrangements.now < 2 ^ 32 }
     requires arrangements { AreArrangements puzzle.now arrangements.now }
     ensures { IfOk result (λ text. IsSheet puzzle.now arrangements.now text.items) }
 {
     let count = arrangements.len() as u16;
-    let sheet = Sheet::new(board_extent(puzzle.board().figure()), first, count);
+    let sheet = Sheet::new(puzzle, numbering, count);
     let mut text = begin_sheet(alloc, puzzle, arrangements, sheet)?;
     let pictures = thumbnails(alloc, puzzle, arrangements, sheet)?;
     let captions = caption_lines(alloc, &sheet, count)?;
@@ -108,11 +133,7 @@ fn thumbnails(
     requires arrangements { AreArrangements puzzle.now arrangements.now }
     ensures { IfOk result (λ text. IsJoined (IsPictureAt puzzle.now arrangements.now) (length arrangements.now) text.items) }
 {
-    let labels = Labels {
-        outline: sheet.outline,
-        signs: false,
-        numbers: false,
-    };
+    let labels = sheet.labels;
     let mut text = Vec::new(alloc);
     for index in 0..arrangements.len() {
         let frame = frame_line(alloc, &sheet, index as u16)?;

@@ -10,7 +10,7 @@ use crate::canvases::{Canvas, Site};
 use crate::edges::{Edge, edge_of};
 use crate::elements::{outline, put_group, put_numbered, sign};
 use crate::forms::side_of;
-use crate::measures::{disc_radius, middle};
+use crate::measures::{NumberSize, middle};
 use crate::numbers::tile_number;
 use crate::parts::part_lines;
 use match_puzzle::{Placement, Puzzle};
@@ -23,8 +23,8 @@ pub struct Labels {
     pub outline: u32,
     /// the sign of the colour at each side
     pub signs: bool,
-    /// the number of the tile
-    pub numbers: bool,
+    /// the number of the tile, so large
+    pub numbers: Option<NumberSize>,
 }
 
 // What is drawn of all tiles before anything else of them is.
@@ -32,8 +32,8 @@ pub struct Labels {
 enum Layer {
     Outlines,
     Signs,
-    Discs,
-    Numbers,
+    Discs(NumberSize),
+    Numbers(NumberSize),
 }
 
 /// Writes these placed tiles, each at the site with its place in the list: a part for each side, and above the parts
@@ -129,32 +129,25 @@ fn put_numbers(
     text: &mut Vec<u8>,
     canvas: &Canvas<'_>,
     placements: &[Placement],
-    wanted: bool,
+    wanted: Option<NumberSize>,
 ) -> Result<(), AllocError>
     requires many { length placements.now ≡ length canvas.now.sites.items }
     requires tiles { All (λ x. x.tile < length canvas.now.puzzle.now.words) placements.now }
     ensures { OnOk result (Grows text.old.items text.new.items) }
 {
-    if !wanted {
+    let Some(size) = wanted else {
         return Ok(());
-    }
-    let discs = layer_lines(alloc, canvas, placements, Layer::Discs)?;
-    put_group(text, b"fill=\"#fff\" stroke=\"#222\"", &discs)?;
-    let numbers = layer_lines(alloc, canvas, placements, Layer::Numbers)?;
-    let letters = if canvas.puzzle.board().sides() == 4 {
-        SQUARE_NUMBER_LETTERS
-    } else {
-        TRIANGLE_NUMBER_LETTERS
     };
-    put_group(text, letters, &numbers)?;
+    let discs = layer_lines(alloc, canvas, placements, Layer::Discs(size))?;
+    put_group(text, b"fill=\"#fff\" stroke=\"#222\"", &discs)?;
+    let numbers = layer_lines(alloc, canvas, placements, Layer::Numbers(size))?;
+    let high = size.letters;
+    let letters = format!(in alloc;
+        "font-family=\"monospace\" font-size=\"{high}\" text-anchor=\"middle\""
+    )?;
+    put_group(text, letters.as_bytes(), &numbers)?;
     Ok(())
 }
-
-const SQUARE_NUMBER_LETTERS: &[u8] =
-    b"font-family=\"monospace\" font-size=\"13\" text-anchor=\"middle\"";
-
-const TRIANGLE_NUMBER_LETTERS: &[u8] =
-    b"font-family=\"monospace\" font-size=\"12\" text-anchor=\"middle\"";
 
 // The layer, a line for each tile.
 fn layer_lines(
@@ -191,10 +184,10 @@ fn put_layer(
             line.extend_from_slice(outline(alloc, canvas, site, edges)?.as_slice())
         }
         Layer::Signs => put_tile_signs(alloc, line, canvas, site, placement),
-        Layer::Discs => put_disc(line, canvas, site),
-        Layer::Numbers => {
+        Layer::Discs(size) => put_disc(line, canvas, site, size),
+        Layer::Numbers(size) => {
             let at = canvas.point(site, middle(site.form));
-            let label = tile_number(alloc, placement, at)?;
+            let label = tile_number(alloc, placement, at, size.base)?;
             line.extend_from_slice(label.as_bytes())
         }
     }
@@ -246,16 +239,20 @@ pub fn side_sign(
     sign(alloc, canvas.puzzle, colour, canvas.point(site, middle))
 }
 
-/// Writes a disc in the middle of the site.
-pub fn put_disc(line: &mut Vec<u8>, canvas: &Canvas<'_>, site: Site) -> Result<(), AllocError> {
+/// Writes the disc behind a number of this size, in the middle of the site.
+pub fn put_disc(
+    line: &mut Vec<u8>,
+    canvas: &Canvas<'_>,
+    site: Site,
+    size: NumberSize,
+) -> Result<(), AllocError> {
     let at = canvas.point(site, middle(site.form));
-    let radius = u64::from(disc_radius(site.form));
     put_numbered(
         line,
         &[
             ("<circle cx=\"", at.x),
             ("\" cy=\"", at.y),
-            ("\" r=\"", radius),
+            ("\" r=\"", u64::from(size.disc)),
         ],
         b"\"/>",
     )
