@@ -3,13 +3,16 @@
 ghost use Rattle.std.specs.Prelude.{◌≡◌, List, IfOk, IsErrOf, length};
 ghost use Rattle.match_limits.specs.declared.TheConstants.{MOST_ARRANGEMENTS};
 ghost use Rattle.match_puzzle.specs.declared.placements.Placement.{Placement};
-ghost use Rattle.match_text.specs.ListSpelling.{IsListText};
+ghost use Rattle.match_limits.specs.declared.ranges.TheConstants.{SECOND};
+ghost use Rattle.match_text.specs.ListSpelling.{IsListText, IsListWithin};
 ghost use Rattle.puzzle_symmetry.specs.Complete.{IsCompleteList};
 ghost use Rattle.symmetry_orbits.specs.Expansion.{AreMoreReached};
 ghost use Rattle.symmetry_orbits.specs.Orbits.{AreMoreListedOrInOrbit};
 ghost use Rattle.match_report.specs.CompleteLists.{AreAllInOrder, AreFirstsOf, IsCountOf, count_text};
 
 use cert_check::Prepared;
+use indexmap::IndexSet;
+use match_puzzle::Arrangement;
 use match_text::write_list;
 use std::alloc::{AllocError, Global};
 use std::hash::BuildHasher;
@@ -17,6 +20,29 @@ use symmetry_orbits::{
     Count, ExpandFault, count, counting_laws, distinct_symmetries, expand, first_of_each_orbit,
 };
 use text_words::put_number_line;
+
+/// Returns all arrangements of the puzzle, from a complete list, each once: the listed ones and then their images, in
+/// the order in which the symmetries reach them.
+///
+/// `TooMany` comes only where there are over 1,000,000, and `Memory` where memory is refused.
+pub fn expand_complete<S: BuildHasher + Drop>(
+    alloc: Global,
+    prepared: Prepared<'_>,
+    hasher: S,
+) -> Result<IndexSet<Arrangement, S>, ExpandFault>
+    requires { IsCompleteList prepared.puzzle prepared.symmetries prepared.listed }
+    ensures all { IfOk result (λ all. AreAllInOrder prepared.entry all.keys) }
+    ensures within { IfOk result (λ all. IsListWithin SECOND all.keys) }
+    ensures too_many { IsErrOf result ExpandFault.TooMany
+        → AreMoreReached MOST_ARRANGEMENTS prepared.entry.puzzle prepared.entry.symmetries prepared.entry.listed }
+{
+    let question = prepared.question();
+    let listed = question.listed();
+    let lines = question.certificate().symmetries();
+    let symmetries = distinct_symmetries(prepared.into_symmetries(), lines);
+    let all = expand(alloc, listed, &symmetries, hasher)?;
+    Ok(all)
+}
 
 /// Writes the list of all arrangements of the puzzle, from a complete list: the listed ones and then their images, in
 /// the order in which the symmetries reach them.
@@ -33,11 +59,7 @@ pub fn write_all<S: BuildHasher + Drop>(
     ensures too_many { IsErrOf result ExpandFault.TooMany
         → AreMoreReached MOST_ARRANGEMENTS prepared.entry.puzzle prepared.entry.symmetries prepared.entry.listed }
 {
-    let question = prepared.question();
-    let listed = question.listed();
-    let lines = question.certificate().symmetries();
-    let symmetries = distinct_symmetries(prepared.into_symmetries(), lines);
-    let all = expand(alloc, listed, &symmetries, hasher)?;
+    let all = expand_complete(alloc, prepared, hasher)?;
     let text = write_list(alloc, all.as_slice())?;
     Ok(text)
 }

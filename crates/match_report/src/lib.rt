@@ -10,7 +10,7 @@ mod tallies;
 
 pub use answers::write_answer;
 pub use boards::write_board;
-pub use complete_lists::{count_complete, write_all, write_counts, write_orbits};
+pub use complete_lists::{count_complete, expand_complete, write_all, write_counts, write_orbits};
 pub use statuses::{Status, Verdict, write_verdict};
 pub use symmetry_orbits::ExpandFault;
 pub use tallies::{Taken, write_tally};

@@ -1,5 +1,5 @@
 -- The texts of a list and of a certificate, read and written.
-use Rattle.std.specs.Prelude.{◌≡◌, ◌⊎◌, ◌+◌, ℕ, List, Result, Vec, IfOk}
+use Rattle.std.specs.Prelude.{◌≡◌, ◌⊎◌, ◌+◌, ℕ, List, Result, Ok, Vec, IfOk}
 use Rattle.std.specs.List.{slice_range}
 use Rattle.std.specs.declared.alloc.Global.{Global}
 use Rattle.match_puzzle.specs.declared.placements.Placement.{Placement}
@@ -10,6 +10,7 @@ use Rattle.text_words.specs.declared.faults.ReadFault.{ReadFault}
 use Rattle.match_limits.specs.declared.ranges.TheConstants.{SECOND}
 use Rattle.cert_tree.specs.Certificate.{Contents}
 use Rattle.cert_text.specs.CertificateSpelling.{certificate_spelling, IsCertificateWithin}
+use Rattle.cert_text.specs.CertificateText.{Makes, certificate_of}
 use Rattle.cert_text.specs.Writing.{said_by}
 use Rattle.cert_text.specs.LemmaParts.{part_start}
 
@@ -27,6 +28,11 @@ IsFirstVersion version c =
 pub record IsCertificateText (c : Contents) (text : List ℕ) : Type 0 where
   pub first : IsCertificateWithin (said_by 1 c) → text ≡ certificate_spelling (said_by 1 c)
   pub second : (IsCertificateWithin (said_by 1 c) → ⊥) → text ≡ certificate_spelling (said_by 2 c)
+
+-- The text reads as the certificate, in one of the versions.
+abbrev pub ReadsBack : (text : List ℕ) → Contents → Type 0
+ReadsBack text c =
+    (version : ℕ) × (certificate_of text ≡ Ok (said_by version c)) × Makes (said_by version c) (Ok c)
 
 -- the arrangements of the part with this number, of those that begin there
 abbrev pub rows_of_part : List (List Placement) → (starts : List ℕ) → (number : ℕ) → List (List Placement)

@@ -1,15 +1,16 @@
 //! Reads and writes the texts of a list and of a certificate.
 
-ghost use Rattle.std.specs.Prelude.{◌+◌, ◌<◌, ◌≤◌, ◌^◌, IfOk, length};
+ghost use Rattle.std.specs.Prelude.{◌≡◌, ◌+◌, ◌<◌, ◌≤◌, ◌^◌, Ok, IfOk, length};
 ghost use Rattle.std.specs.List.{flat_map};
 ghost use Rattle.std.specs.Thread.{IsSync};
 ghost use Rattle.match_limits.specs.declared.TheConstants.{MOST_WORKERS};
 ghost use Rattle.match_text.specs.ListSpelling.{IsListText, IsListWithin};
+ghost use Rattle.match_text.specs.Lists.{list_of};
 ghost use Rattle.match_limits.specs.declared.ranges.TheConstants.{SECOND};
 ghost use Rattle.cert_text.specs.CertificateSpelling.{IsCertificateWithin};
 ghost use Rattle.cert_text.specs.CertificateText.{CertificateGives, certificate_of};
 ghost use Rattle.cert_text.specs.Writing.{said_by};
-ghost use Rattle.text_crew.specs.Texts.{IsCertificateText, IsListRead};
+ghost use Rattle.text_crew.specs.Texts.{IsCertificateText, IsListRead, ReadsBack};
 
 use crate::list_writings::write_list_with;
 use crate::parts::alone;
@@ -140,6 +141,11 @@ pub fn write_texts_with<R: Threads + Sync>(
     ensures list { IfOk result (λ texts. IsListText listed.now (flat_map (λ part. part.items) texts.list.items)) }
     ensures certificate { IfOk result (λ texts.
         IsCertificateText certificate.now (flat_map (λ part. part.items) texts.certificate.items)) }
+    // Both read back as what was written.
+    ensures list_reads { IfOk result (λ texts.
+        list_of (flat_map (λ part. part.items) texts.list.items) ≡ Ok listed.now) }
+    ensures certificate_reads { IfOk result (λ texts.
+        ReadsBack (flat_map (λ part. part.items) texts.certificate.items) certificate.now) }
 {
     let list = write_listed(rt, alloc, listed, workers)?;
     let certificate = write_certificate_with(rt, alloc, certificate, workers)?;
