@@ -8,7 +8,7 @@ _edgematch() {
     words="check explain solve expand page count total show draw symmetries tiles help --help --version"
   else
     case $before in
-      --depth | --first | --forks | --fuel | --most | --part | --title | --workers) return ;;
+      --all | --depth | --first | --forks | --fuel | --most | --part | --title | --workers) return ;;
       --symmetries)
         mapfile -t COMPREPLY < <(compgen -W "all board" -- "$word")
         return
@@ -17,13 +17,13 @@ _edgematch() {
     case $command in
       check) words="--workers --forks --progress --hints --help" ;;
       explain) words="--help" ;;
-      solve) words="--depth --fuel --workers --symmetries --progress --hints --help" ;;
+      solve) words="--depth --fuel --workers --symmetries --check --progress --hints --help" ;;
       expand) words="--orbits --hints --help" ;;
       page) words="--title --first --hints --help" ;;
       count) words="--workers --most --part --progress --help" ;;
       total) words="--help" ;;
       show) words="--help" ;;
-      draw) words="--first --numbers --help" ;;
+      draw) words="--first --all --numbers --help" ;;
       symmetries) words="--help" ;;
       tiles) words="--lines --help" ;;
       help) words="check explain solve expand page count total show draw symmetries tiles help" ;;

@@ -80,7 +80,7 @@ class Trial:
         self.wants("the files that are left", sorted(names), sorted(os.listdir(self.folder)))
 
     def words(self, *files, options=("--depth", "0")):
-        return [self.program, "solve", *(self.path(it) for it in files), *options]
+        return [self.program, "solve", *(it if it == "-" else self.path(it) for it in files), *options]
 
     def begin(self, *files, options=("--depth", "0"), **how):
         streams = {"stdin": subprocess.DEVNULL, "stdout": subprocess.PIPE, "stderr": subprocess.PIPE, **how}
@@ -340,6 +340,19 @@ def a_log(trial):
         trial.solve("puzzle", f"/dev/fd/{third}", "certificate", pass_fds=(third,))
     trial.wants("another descriptor", OLD + LIST, trial.holds("log"))
     trial.wants_left("puzzle", "plain", "list", "certificate", "log", "link")
+
+
+def a_puzzle_on_input(trial):
+    """A puzzle on standard input is solved, and the file that it comes from is not written over, by whatever name."""
+    with open(trial.path("puzzle"), "rb") as puzzle:
+        trial.solve("-", "list", "certificate", stdin=puzzle)
+    os.symlink("puzzle", trial.path("link"))
+    for name in ("puzzle", "link", "/dev/stdin", "/proc/self/fd/0"):
+        for files in ((name, "certificate"), ("list", name)):
+            with open(trial.path("puzzle"), "rb") as puzzle:
+                trial.fails("-", *files, stdin=puzzle)
+    trial.wants_texts(puzzle=PUZZLE, list=LIST, certificate=CERTIFICATE)
+    trial.wants_left("puzzle", "list", "certificate", "link")
 
 
 def devices(trial):
@@ -717,7 +730,6 @@ def reasons_on_a_terminal(trial):
 def reasons_with_hints(trial):
     """With `--hints` a file or a stream that is refused is named with the reason, wherever that is told."""
     trial.put("list", LIST)
-    here = b"here it doesn't stand for standard input: a solve reads its puzzle from a file"
     for words, line, reason in (
             ("check nothing list list", b"cannot read puzzle\n", b"nothing: there is no such file\n"),
             ("expand puzzle nothing list", b"cannot read list\n", b"nothing: there is no such file\n"),
@@ -725,8 +737,7 @@ def reasons_with_hints(trial):
             ("solve puzzle none/made made", b"cannot write\n", b"none/made: there is no such folder\n"),
             ("solve puzzle puzzle made", b"cannot write\n", b"two of the names lead to one file\n"),
             ("solve puzzle /dev/full made", b"cannot write\n", b"/dev/full: no space is left\n"),
-            ("solve - made made_too", b"cannot read puzzle\n",
-             b"-: there is no such file, and " + here + b"\n"),
+            ("solve ./- made made_too", b"cannot read puzzle\n", b"./-: there is no such file\n"),
     ):
         run = subprocess.run([trial.program, *words.split(), "--hints"], capture_output=True, cwd=trial.folder,
                              timeout=LONGEST, check=False)
@@ -768,7 +779,7 @@ def hints_on_a_terminal(trial):
 
 TRIALS = (
     new_files, modes, each_step, owners, two_disks, links, links_in_a_circle, hard_links_of_the_puzzle, two_links_to_nothing,
-    pipes, a_log, devices, a_full_disk, a_closed_pipe_for_the_report, a_stop_by_a_signal, two_at_once, two_in_rounds,
+    pipes, a_log, a_puzzle_on_input, devices, a_full_disk, a_closed_pipe_for_the_report, a_stop_by_a_signal, two_at_once, two_in_rounds,
     a_name_that_leads_elsewhere, a_file_that_another_replaces, a_fault_beside_another_solve, closed_streams, a_closed_input,
     progress_in_the_middle, an_input_of_another, words_that_are_no_text, a_limit_on_memory, workers, reasons_on_a_terminal, reasons_with_hints,
     hints_on_a_terminal, what_is_awaited_on_a_terminal, what_is_listed_on_a_terminal, names_of_standard_input,

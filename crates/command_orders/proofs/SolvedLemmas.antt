@@ -1,14 +1,15 @@
 -- What a solve comes to, by the run that it makes and what is done to its files.
-use Rattle.std.proofs.Common.{◌≡◌, ◌⊎◌, ◌++◌, ◌∷◌, [], ℕ, List, Option, Result, Ok, Err, ap, inl, inr, refl, subst, zero-le}
+use Rattle.std.proofs.Common.{◌≡◌, ◌⊎◌, ◌++◌, ◌∷◌, [], ℕ, List, Option, Result, Ok, Err, inl, inr, refl, subst, zero-le}
 use Rattle.std.specs.Prelude.{OnOk}
-use Rattle.std.specs.Io.KnownBytes.{Appends, Consumes}
+use Rattle.std.specs.Io.KnownBytes.{Appends}
 use Rattle.std.proofs.KnownBytes.{Consumes-nil}
 use Rattle.byte_streams.specs.Deeds.{Deed, Did}
 use Rattle.byte_streams.specs.MadeFiles.{AreMade, AreWritten, PutsNoneOrHalf, Settles, SettlesWhole, Undid, both_made, both_removed}
-use Rattle.byte_streams.specs.Moves.{FrontOf, Takes, Writing}
+use Rattle.byte_streams.specs.Moves.{FrontOf, Takes, Writing, reading_of}
 use Rattle.byte_streams.specs.Origins.{Origin, one_source}
 use Rattle.byte_streams.specs.Targets.{StopsWriting, Target, filled, products_to, three_sinks}
 use Rattle.byte_streams.specs.declared.faults.Document.TheVariants as documents
+use Rattle.byte_streams.specs.declared.faults.InputFault.{InputFault}
 use Rattle.byte_streams.specs.declared.faults.InputFault.TheVariants as inputs
 use Rattle.byte_streams.specs.declared.files.FileSystem.{Ghosts as FileMembers}
 use Rattle.byte_streams.specs.declared.made_files.MadeFiles.{MadeFiles}
@@ -19,18 +20,19 @@ use Rattle.byte_streams.specs.declared.made_files.Unsettled.TheVariants as unset
 use Rattle.byte_streams.specs.declared.outputs.Products.{Products}
 use Rattle.byte_streams.specs.declared.sources.Source.{Ghosts as SourceMembers}
 use Rattle.command_words.specs.declared.places.Files.{Files}
-use Rattle.command_orders.specs.FileOrigins.{Opened, one_file, read_from}
 use Rattle.command_orders.specs.OrderRuns.{SolveOf, ThenDone}
 use Rattle.command_runs.specs.Runs.{Runs, unhinted}
 use Rattle.command_runs.specs.declared.hints.HintedFault.{HintedFault}
 use Rattle.command_orders.specs.SolvedFiles.{certificate_name, half_put, list_name, solved_files}
 use Rattle.command_orders.specs.SolvedFiles.{both_made as files_made}
-use Rattle.command_runs.specs.Solving.{SolveFails, SolveGivesOf}
-use Rattle.match_symmetry.specs.declared.choices.Suggested.{Suggested}
+use Rattle.command_runs.specs.Solving.{SolveFailsOf, SolveGivesOf}
+use Rattle.command_runs.specs.declared.solve_runs.SolvePlan.{SolvePlan}
+use Rattle.command_orders.specs.declared.exits.Exit.{Exit}
 use Rattle.command_orders.specs.declared.exits.Exit.TheVariants.{Done}
 use Rattle.command_runs.specs.declared.faults.RunFault.{RunFault}
 use Rattle.command_runs.specs.declared.faults.RunFault.TheVariants as runs
 use Rattle.command_runs.proofs.RunningLemmas.{stopped_over}
+use Rattle.command_orders.proofs.OrderLemmas.{over_origin}
 
 -- ---- deeds
 
@@ -75,30 +77,33 @@ reports_some : (list certificate report : Writing) (made : Products) → StopsWr
 reports_some list certificate report made (inl stops) = inl stops.1.1.0
 reports_some list certificate report made (inr later) = second_stops certificate report made later.1
 
-module _ {S R W : Type 0} (system : FileMembers S R W) (source : SourceMembers R) (at : S) (name : List ℕ) (file : Opened system source at name) where
+module _ (plan : SolvePlan) (from : Origin (List ℕ)) (to : Target Products) (Put : Products → Type 0) where
   -- the run that a solve makes stopped, and what was made was removed
-  pub solve_stopped : (symmetries : Suggested) (workers : ℕ) (list certificate report : Writing) (to : Target Products) (Put : Products → Type 0) (Undone : Type 0) → Undone
+  pub solve_stopped : (list certificate report : Writing) (Undone : Type 0) → Undone
       → ((made : Products) → Undone × (report.Untouched ⊎ (FrontOf report made.report ⊎ Takes report made.report)) → to.Stopped made) → (Undone × report.Untouched → to.Untouched)
       → (fault : RunFault)
-      → Runs (one_source documents.Puzzle (read_from system source at name file)) (SolveGivesOf symmetries workers) SolveFails (three_sinks list certificate report) (Err fault)
-      → SolveOf symmetries workers (one_file system source at name) to Put (Err fault)
-  solve_stopped symmetries workers list certificate report to Put Undone undone stopped untouched fault run =
-      inl (stopped_over (one_source documents.Puzzle (read_from system source at name file)) (one_file system source at name) (SolveGivesOf symmetries workers) (ThenDone (SolveGivesOf symmetries workers)) SolveFails
-      (three_sinks list certificate report) to (λ t gave. (file, gave)) (λ f stops. inr (file, stops)) (λ t m e g. (Done, (g, refl)))
+      → Runs from (SolveGivesOf plan) (SolveFailsOf plan.check) (three_sinks list certificate report) (Err fault)
+      → SolveOf plan from to Put (Err fault)
+  solve_stopped list certificate report Undone undone stopped untouched fault run =
+      inl (stopped_over from from (SolveGivesOf plan) (ThenDone (SolveGivesOf plan)) (SolveFailsOf plan.check)
+      (three_sinks list certificate report) to (λ t gave. gave) (λ f stops. stops) (λ t m e g. (Done, (g, refl)))
       (λ m stops. stopped m (undone, reports_some list certificate report m stops)) (λ u. untouched (undone, u.2)) fault run)
 
-  -- a file that was opened, and not read yet, has no fault
-  pub unread : file.later ≡ file.opened → (one_file system source at name).Stopped inputs.Memory
-  unread same = inr (file, ((([], nothing, zero-le), ap source.errors same), tt))
-    where
-      nothing : Consumes (source.left file.opened) (source.left file.later) []
-      nothing = rw same (Consumes-nil (source.left file.opened))
-
   -- it is not begun, since a file could not be made
-  pub not_begun : file.later ≡ file.opened → (symmetries : Suggested) (workers : ℕ) (to : Target Products) (Put : Products → Type 0) (fault : RunFault) → (fault ≡ runs.Write) ⊎ (fault ≡ runs.Memory) → to.Untouched
-      → SolveOf symmetries workers (one_file system source at name) to Put (Err fault)
-  not_begun same symmetries workers to Put fault (inl write) untouched = rw write (inr (inl (refl, untouched)))
-  not_begun same symmetries workers to Put fault (inr memory) untouched = rw memory (inl (unread same, untouched))
+  pub not_begun : from.Stopped inputs.Memory → (fault : RunFault) → (fault ≡ runs.Write) ⊎ (fault ≡ runs.Memory) → to.Untouched → SolveOf plan from to Put (Err fault)
+  not_begun unread fault (inl write) untouched = rw write (inr (inl (refl, untouched)))
+  not_begun unread fault (inr memory) untouched = rw memory (inl (unread, untouched))
+
+  -- what it comes to by what else is said of where its text comes from
+  pub solve_over : (from' : Origin (List ℕ)) → ((t : List ℕ) → from.Gave t → from'.Gave t) → ((f : InputFault) → from.Stopped f → from'.Stopped f)
+      → (result : Result Exit RunFault) → SolveOf plan from to Put result → SolveOf plan from' to Put result
+  solve_over from' gave stopped result (inl run) = inl (over_origin from from' (ThenDone (SolveGivesOf plan)) (SolveFailsOf plan.check) to gave stopped result run)
+  solve_over from' gave stopped result (inr (inl unbegun)) = inr (inl unbegun)
+  solve_over from' gave stopped result (inr (inr other)) = inr (inr (other.0, other.1, other.2, gave other.1 other.3, other.4, other.5))
+
+-- a source that isn't read has no fault
+pub unread : {P : Type 0} (source : SourceMembers P) (at : P) → (one_source documents.Puzzle (reading_of source at at)).Stopped inputs.Memory
+unread source at = ((([], Consumes-nil (source.left at), zero-le), refl), tt)
 
 -- all was written, and a file could not be put in its place
 pub put_stopped : {S : Type 0} (does : S → Deed → S → Type 0) (leads : S → List ℕ → List ℕ → Type 0) (files : Files) (old now new : S) (report : Writing) (made : Products) → Did does old (files_made files) now

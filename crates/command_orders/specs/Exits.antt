@@ -19,7 +19,9 @@ abbrev pub status_exit : Status → Exit
 status_exit status.Complete = Done
 status_exit status.Refused = Refused
 
--- how a run ends that a fault stopped: that a puzzle was not solved is told apart
+-- how a run ends that a fault stopped: that a puzzle was not solved is told apart, and that what a solve found was
+-- refused by a check
 abbrev pub fault_exit : RunFault → Exit
 fault_exit (runs.Solve fault) = Unsolved
+fault_exit runs.Refused = Refused
 fault_exit fault = Failed

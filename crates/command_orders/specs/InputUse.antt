@@ -1,7 +1,7 @@
 -- Which orders read standard input, and what the others leave of it.
 use Rattle.std.specs.Prelude.{◌≡◌, ◌||◌, Bool, true, false}
 use Rattle.command_words.specs.declared.orders.Order.{Order}
-use Rattle.command_words.specs.declared.orders.Order.TheVariants.{Joined, Check, Explain, ExplainPuzzle, Solve, Expand, Count, Page, Census, Total, Show, Draw, Symmetries, Tiles}
+use Rattle.command_words.specs.declared.orders.Order.TheVariants.{Joined, Check, Explain, ExplainPuzzle, Solve, Expand, Count, Page, Census, Total, Show, Draw, DrawAll, Symmetries, Tiles}
 use Rattle.command_words.specs.declared.orders.Subject.{Subject}
 use Rattle.command_words.specs.declared.orders.Subject.TheVariants.{Board, Listed}
 use Rattle.command_words.specs.declared.places.Given.{Given}
@@ -36,8 +36,8 @@ abbrev pub is_subject_on_input : Subject → Bool
 is_subject_on_input (Board puzzle) = is_on_input puzzle
 is_subject_on_input (Listed places number) = is_one_of_two_on_input places
 
--- Whether an order reads standard input: where one of its documents stands there, or all three joined. A solve and a
--- list of tiles never do.
+-- Whether an order reads standard input: where one of its documents stands there, or all three joined. A list of tiles
+-- never does.
 abbrev pub reads_input : Order → Bool
 reads_input Joined = true
 reads_input (Check order) = is_given_on_input order.given
@@ -48,9 +48,10 @@ reads_input (Count documents) = is_given_on_input documents
 reads_input (Page order) = is_given_on_input order.given
 reads_input (Census order) = is_on_input order.puzzle
 reads_input (Total places) = are_parts_on_input places
-reads_input (Solve order) = false
+reads_input (Solve order) = is_on_input order.files.puzzle
 reads_input (Show subject) = is_subject_on_input subject
 reads_input (Draw order) = is_subject_on_input order.subject
+reads_input (DrawAll order) = is_given_on_input order.given
 reads_input (Symmetries puzzle) = is_on_input puzzle
 reads_input (Tiles order) = false
 

@@ -5,8 +5,10 @@ use Rattle.command_words.specs.declared.orders.Extent.{Extent}
 use Rattle.command_words.specs.declared.orders.Subject.{Subject}
 use Rattle.command_words.specs.declared.orders.Subject.TheVariants.{Board, Listed}
 use Rattle.command_words.specs.declared.orders.Order.{Order}
+use Rattle.command_words.specs.declared.orders.DrawAllOrder.{DrawAllOrder}
 use Rattle.command_words.specs.declared.orders.PageOrder.{PageOrder}
-use Rattle.command_words.specs.declared.orders.Order.TheVariants.{Joined, Check, Explain, ExplainPuzzle, Solve, Expand, Count, Page, Census, Total, Show, Draw, Symmetries, Tiles}
+use Rattle.command_words.specs.declared.orders.SolveOrder.{SolveOrder}
+use Rattle.command_words.specs.declared.orders.Order.TheVariants.{Joined, Check, Explain, ExplainPuzzle, Solve, Expand, Count, Page, Census, Total, Show, Draw, DrawAll, Symmetries, Tiles}
 use Rattle.byte_streams.specs.Documents.{Texts}
 use Rattle.byte_streams.specs.Moves.{Writing, reading_of}
 use Rattle.byte_streams.specs.Origins.{Origin, joined_source, no_source}
@@ -20,7 +22,6 @@ use Rattle.command_runs.specs.Census.{CensusFails, CensusGives}
 use Rattle.command_runs.specs.Checking.{CheckFails, CheckGives, SpellCompleteList}
 use Rattle.command_runs.specs.Describing.{Describes, DescribeFails}
 use Rattle.command_orders.specs.Exits.{status_exit}
-use Rattle.command_orders.specs.FileOrigins.{one_file}
 use Rattle.command_runs.specs.Listed.{DrawFails, DrawsListed}
 use Rattle.command_runs.specs.Pages.{PageGives}
 use Rattle.command_runs.specs.Pictures.{DrawsPicture, PictureFails}
@@ -36,8 +37,8 @@ use Rattle.command_orders.specs.declared.place_runs.DocumentsPlan.TheVariants as
 use Rattle.command_orders.specs.declared.place_runs.Drawing.{Drawing}
 use Rattle.command_orders.specs.declared.place_runs.Drawing.TheVariants.{Arrangement, Picture}
 use Rattle.command_orders.specs.declared.streams.Streams.{Streams}
-use Rattle.command_runs.specs.Solving.{SolveFails, SolveGivesOf}
-use Rattle.match_symmetry.specs.declared.choices.Suggested.{Suggested}
+use Rattle.command_runs.specs.Solving.{SolveFailsOf, SolveGivesOf}
+use Rattle.command_runs.specs.declared.solve_runs.SolvePlan.{SolvePlan}
 use Rattle.command_runs.specs.Totals.{TotalFails, TotalGives}
 use Rattle.command_runs.specs.Tiles.{TileLinesGive, TilesFail, TilesGive}
 use Rattle.command_runs.specs.declared.description_runs.Description.{Description}
@@ -114,16 +115,32 @@ TilesOf sides colours true output result =
 TilesOf sides colours false output result =
     Runs no_source (ThenDone (TilesGive sides colours)) (TilesFail sides colours) (one_sink output) result
 
--- What a solve comes to. It is not begun where two of the files are one, or one can't be made. Where it put all, and
--- another file is found under a name then, that is its fault.
-abbrev pub SolveOf : (symmetries : Suggested) (workers : ℕ) → Origin (List ℕ) → Target Products → (PutsAll : Products → Type 0)
+-- the plan of a solve that is ordered
+abbrev pub solve_plan_of : SolveOrder → SolvePlan
+solve_plan_of order = record {
+  search = record {
+    depth = order.depth;
+    fuel = order.fuel;
+    workers = order.workers;
+    symmetries = order.symmetries;
+  };
+  check = order.check;
+}
+
+-- What a solve by this plan comes to. It is not begun where two of the files are one, or one can't be made. Where it
+-- put all, and another file is found under a name then, that is its fault.
+abbrev pub SolveOf : SolvePlan → Origin (List ℕ) → Target Products → (PutsAll : Products → Type 0)
     → Result Exit RunFault → Type 0
-SolveOf symmetries workers from to PutsAll result =
-    Runs from (ThenDone (SolveGivesOf symmetries workers)) SolveFails to result
+SolveOf plan from to PutsAll result =
+    Runs from (ThenDone (SolveGivesOf plan)) (SolveFailsOf plan.check) to result
     ⊎ (((result ≡ Err runs.Write) × to.Untouched)
     ⊎ ((result ≡ Err runs.Replaced)
-    × (text : List ℕ) × (made : Products) × from.Gave text × SolveGivesOf symmetries workers text made tt
-    × PutsAll made))
+    × (text : List ℕ) × (made : Products) × from.Gave text × SolveGivesOf plan text made tt × PutsAll made))
+
+-- the picture of all arrangements that is ordered
+abbrev pub picture_printed : DrawAllOrder → Printing
+picture_printed order =
+    printings.Picture (record { number = order.number; first = order.first; numbers = order.numbers })
 
 -- What a drawing of what is listed comes to.
 abbrev pub DrawingOf : Drawing → Origin TwoTexts → Writing → Result Exit RunFault → Type 0
@@ -183,11 +200,15 @@ module _ {S R W I : Type 0} (system : FileMembers S R W) (source : SourceMembers
       RunOf (Total places) result =
           (new ≡ old) × TotalOf (given_parts system source input old given later places) output result
       RunOf (Solve order) result =
-          SolveOf order.symmetries order.workers (one_file system source old (string_bytes order.files.puzzle))
+          SolveOf (solve_plan_of order) (one_place system source old input given later order.files.puzzle)
           (solved_files order.files system.does system.leads old new output)
           (PutsAll order.files system.does old new output) result
       RunOf (Show subject) result = (new ≡ old) × ShowOf subject output result
       RunOf (Draw order) result = (new ≡ old) × PictureOf order.subject order.first output result
+      RunOf (DrawAll order) result =
+          (new ≡ old)
+          × PrintingOf (picture_printed order) (given_documents system source old input given later order.given) output
+          result
       RunOf (Symmetries puzzle) result =
           (new ≡ old)
           × DescriptionOf descriptions.Symmetries (one_place system source old input given later puzzle) output result

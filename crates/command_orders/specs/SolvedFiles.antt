@@ -8,7 +8,7 @@ use Rattle.byte_streams.specs.Moves.{FrontOf, Takes, Writing}
 use Rattle.byte_streams.specs.Targets.{Target}
 use Rattle.byte_streams.specs.declared.outputs.Products.{Products}
 use Rattle.command_words.specs.declared.places.Files.{Files}
-use Rattle.command_orders.specs.Files.{HaveDifferentNames}
+use Rattle.command_orders.specs.Files.{HaveDifferentNames, puzzle_name}
 
 module _ (files : Files) where
   -- the names of the files of the list and the certificate
@@ -58,11 +58,11 @@ module _ (files : Files) where
 -- ---- what stands under names
 
 -- After the deeds of a solve of these files that is done, the list and the certificate stand under their names, and what
--- stood under the puzzle's stands there.
+-- stood under the puzzle's stands there: under that of standard input, where the puzzle came from there.
 pub record FilesStand (files : Files) (made : Products) : Type 0 where
   pub list : Stands (both_made files ++ both_put files made) (string_bytes files.list) made.list
   pub certificate : Stands (both_made files ++ both_put files made) (string_bytes files.certificate) made.certificate
-  pub puzzle : AllLeave (string_bytes files.puzzle) (both_made files ++ both_put files made)
+  pub puzzle : AllLeave (puzzle_name files) (both_made files ++ both_put files made)
 
 -- So it is; and after a fault, before all is written, what stood under any name stands there.
 abbrev pub NothingIsLost : Type 0

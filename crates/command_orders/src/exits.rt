@@ -12,7 +12,7 @@ pub enum Exit {
     Done,
     /// 1: the certificate does not show that the list is complete.
     Refused,
-    /// 2: the words are wrong, or there was a fault other than of solving.
+    /// 2: the words are wrong, or there was any other fault.
     Failed,
     /// 3: the puzzle was not solved.
     Unsolved,
@@ -35,6 +35,7 @@ impl Exit {
     {
         match fault {
             RunFault::Solve(_) => Exit::Unsolved,
+            RunFault::Refused => Exit::Refused,
             _ => Exit::Failed,
         }
     }

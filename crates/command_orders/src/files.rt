@@ -1,16 +1,12 @@
 //! Files, by their names.
 
 ghost use Rattle.std.specs.Prelude.{◌≡◌, ◌≢◌, ◌↔◌, false, IfOk, IfErr, IsTrue};
-ghost use Rattle.command_orders.specs.Files.{HaveDifferentNames};
+ghost use Rattle.command_orders.specs.Files.{HaveDifferentNames, puzzle_name};
 
 use byte_streams::{Document, FileSystem, Refusal};
 use command_runs::{HintedFault, RunFault};
-use command_words::Files;
+use command_words::{Files, Place};
 use std::alloc::{AllocError, Global};
-
-// The hint for a user who names standard input where `-` doesn't stand for it.
-const NO_INPUT: &str =
-    "-: there is no such file, and here it doesn't stand for standard input: a solve reads its puzzle from a file";
 
 /// Opens the file of a document; nothing of it is read yet. `Read` of the document comes where it can't be opened, and
 /// the hint says why.
@@ -26,17 +22,10 @@ pub fn open<S: FileSystem>(
 {
     match system.open(name) {
         Ok(file) => Ok(file),
-        Err(refusal) => {
-            let hint = if name == "-" && refusal == Refusal::NoFile {
-                String::from_str(alloc, NO_INPUT).ok()
-            } else {
-                hint_on(alloc, name, refusal)
-            };
-            Err(HintedFault {
-                fault: RunFault::Read(document),
-                hint,
-            })
-        }
+        Err(refusal) => Err(HintedFault {
+            fault: RunFault::Read(document),
+            hint: hint_on(alloc, name, refusal),
+        }),
     }
 }
 
@@ -54,6 +43,16 @@ pub fn have_different_names(puzzle: &str, list: &str, certificate: &str) -> bool
     puzzle != list && puzzle != certificate && list != certificate
 }
 
+// The name of the file that has the puzzle of a solve: the system has one for standard input too.
+fn puzzle_name(files: &Files) -> &str
+    ensures { result.now ≡ puzzle_name files.now }
+{
+    match &files.puzzle {
+        Place::File(name) => name,
+        Place::Input => "/dev/stdin",
+    }
+}
+
 // Whether the three files have different names and, as far as the system says, are three files.
 pub(crate) fn are_apart<S: FileSystem>(
     alloc: Global,
@@ -62,11 +61,9 @@ pub(crate) fn are_apart<S: FileSystem>(
 ) -> Result<bool, AllocError>
     ensures { IfOk result (λ are. IsTrue are → HaveDifferentNames files.now) }
 {
-    let Files {
-        puzzle,
-        list,
-        certificate,
-    } = files;
+    let puzzle = puzzle_name(files);
+    let list = &files.list;
+    let certificate = &files.certificate;
     Ok(
         have_different_names(puzzle, list, certificate)
             && !system.may_lead_to_one(alloc, puzzle, list)?

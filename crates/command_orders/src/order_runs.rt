@@ -5,11 +5,11 @@ ghost use Rattle.std.specs.String.{string_bytes};
 ghost use Rattle.byte_streams.specs.Moves.{reading_of, writing_of};
 ghost use Rattle.byte_streams.specs.Origins.{one_source};
 ghost use Rattle.byte_streams.specs.declared.faults.Document.TheVariants as documents;
-ghost use Rattle.command_orders.specs.FileOrigins.{one_file};
-ghost use Rattle.command_orders.specs.InputUse.{LeavesInput, are_parts_on_input, is_subject_on_input};
+ghost use Rattle.command_orders.specs.InputUse.{LeavesInput, are_parts_on_input, is_on_input, is_subject_on_input};
 ghost use Rattle.command_orders.specs.OrderRuns.{IsPlanOf, PictureOf, RunOver, ShowOf, SolveOf, TilesOf, TotalOf};
-ghost use Rattle.command_orders.specs.OrderRuns.{list_printed};
+ghost use Rattle.command_orders.specs.OrderRuns.{list_printed, picture_printed, solve_plan_of};
 ghost use Rattle.command_orders.specs.PartFiles.{given_parts, part_files};
+ghost use Rattle.command_orders.specs.PlaceOrigins.{one_place};
 ghost use Rattle.command_runs.specs.Runs.{unhinted};
 ghost use Rattle.command_orders.specs.SameStreams.{AreSameStreams};
 ghost use Rattle.command_orders.specs.SolvedFiles.{PutsAll, solved_files};
@@ -30,11 +30,11 @@ use byte_streams::{
 };
 use command_runs::{
     CheckPlan, Description, HintedFault, PagePlan, PicturePlan, Printing, PrintingPlan, RunFault,
-    SearchPlan, Watched, run_solve_watched, run_tile_lines, run_tiles, run_total,
+    SearchPlan, SolvePlan, Watched, run_solve_watched, run_tile_lines, run_tiles, run_total,
 };
 use command_words::{
-    CheckOrder, DrawOrder, ExpandOrder, Files, Given, Order, PageOrder, PartPlaces, SolveOrder,
-    Subject, TilesOrder,
+    CheckOrder, DrawAllOrder, DrawOrder, ExpandOrder, Files, Given, Order, PageOrder, PartPlaces,
+    Place, SolveOrder, Subject, TilesOrder,
 };
 use match_limits::{Colours, Forks, Sides, Workers};
 use std::alloc::Global;
@@ -43,14 +43,17 @@ use std::sync::Wait;
 use std::thread::Threads;
 use std::time::Clock;
 
-/// Does what is ordered, and returns how the program ends where there was no fault: `Done`, or `Refused` where a list
-/// is not shown to be complete.
+/// Does what is ordered, and returns how the program ends where there was no fault: `Done`, or `Refused` where the list
+/// that is given is not shown to be complete.
 ///
 /// All files of an order are opened before one is read: the puzzle's, the list's, the certificate's. `Read` of the
 /// first that can't be opened comes then. A document on standard input is read from there in its turn; where none is,
-/// nothing is taken from standard input. A solve opens the puzzle's file, and makes the other two beside their names.
-/// `Write` comes where two of the three are one file, or one can't be made. What it made is put under the names once
-/// everything is written, the list first; after a fault it is removed.
+/// nothing is taken from standard input.
+///
+/// A solve makes its two files beside their names before it reads the puzzle. `Write` comes where two of the three are
+/// one file, also the file that standard input is, or one can't be made. What it made is put under the names once
+/// everything is written, the list first; after a fault it is removed. A solve that is checked has the fault `Refused`
+/// where the certificate that it made does not show that its list is complete; then nothing is put under a name.
 ///
 /// A hint says why a file is refused, or what has to be changed in a text that has a fault. There is none where memory
 /// is refused to it. A check and a solve have no hint on a text where none is asked for and nobody reads it on a
@@ -84,7 +87,17 @@ pub fn run_order<
             let check = DocumentsOrder::new(rt, alloc, plan);
             check.run(&order.given, system, streams.input, streams.output)
         }
-        Order::Solve(order) => solve(rt, alloc, order, is_watched, system, streams.output),
+        Order::Solve(order) => {
+            solve(
+                rt,
+                alloc,
+                order,
+                is_watched,
+                system,
+                streams.input,
+                streams.output,
+            )
+        }
         Order::Explain(given) => {
             let order = DocumentsOrder::new(rt, alloc, DocumentsPlan::Printing(EXPLANATION));
             order.run(given, system, streams.input, streams.output)
@@ -119,6 +132,11 @@ pub fn run_order<
         Order::Total(parts) => add_up(alloc, parts, system, streams.input, streams.output),
         Order::Show(subject) => show(alloc, subject, system, streams.input, streams.output),
         Order::Draw(order) => picture(alloc, order, system, streams.input, streams.output),
+        Order::DrawAll(order) => {
+            let plan = DocumentsPlan::Printing(picture_of_all(order));
+            let drawing = DocumentsOrder::new(rt, alloc, plan);
+            drawing.run(&order.given, system, streams.input, streams.output)
+        }
         Order::Symmetries(puzzle) => {
             let order = DescriptionOrder::new(puzzle, Description::Symmetries);
             describe(alloc, &order, system, streams.input, streams.output)
@@ -172,37 +190,66 @@ fn answer_plan(order: &CheckOrder, is_watched: bool) -> AnswerPlan {
     }
 }
 
-// How the search of a solve goes.
-fn search_plan(order: &SolveOrder) -> SearchPlan
-    ensures symmetries { result.symmetries ≡ order.now.symmetries }
-    ensures workers { result.workers ≡ order.now.workers }
+// How a solve goes that is ordered.
+fn solve_plan(order: &SolveOrder) -> SolvePlan
+    ensures { result ≡ solve_plan_of order.now }
 {
-    SearchPlan {
+    let search = SearchPlan {
         depth: order.depth,
         fuel: order.fuel,
         workers: order.workers,
         symmetries: order.symmetries,
+    };
+    SolvePlan {
+        search,
+        check: order.check,
     }
 }
 
-// Opens the puzzle's file, and makes the others beside their names, before anything is read. Puts them there when
-// everything is written. A file that is one of the others is not made.
-fn solve<S: FileSystem, W: Sink, R: Threads + Wait + Sync + Clock + Eprint>(
+// Solves the puzzle that stands at its place. Opens its file before the other two are made.
+fn solve<S: FileSystem, I: Source, W: Sink, R: Threads + Wait + Sync + Clock + Eprint>(
     rt: &R,
     alloc: Global,
     order: &SolveOrder,
     is_watched: bool,
     system: &mut S,
+    input: &mut I,
     output: &mut W,
 ) -> Result<Exit, HintedFault>
-    ensures { SolveOf order.now.symmetries order.now.workers
-        (one_file S.FileSystem S.Reader.Source system.old (string_bytes order.now.files.puzzle))
+    ensures run { SolveOf (solve_plan_of order.now)
+        (one_place S.FileSystem S.Reader.Source system.old I.Source input.old input.new order.now.files.puzzle)
+        (solved_files order.now.files S.does S.leads system.old system.new (writing_of W.Sink output.old output.new))
+        (PutsAll order.now.files S.does system.old system.new (writing_of W.Sink output.old output.new))
+        (unhinted result) }
+    ensures unread { LeavesInput (is_on_input order.now.files.puzzle) input.old input.new }
+{
+    match &order.files.puzzle {
+        Place::File(name) => {
+            let mut puzzle = open(alloc, system, name, Document::Puzzle)?;
+            solve_from(rt, alloc, order, is_watched, system, &mut puzzle, output)
+        }
+        Place::Input => solve_from(rt, alloc, order, is_watched, system, input, output),
+    }
+}
+
+// Solves the puzzle that this source has. Makes the list's file and the certificate's beside their names, before
+// anything is read, and puts them there when everything is written. A file that is one of the others is not made.
+fn solve_from<S: FileSystem, P: Source, W: Sink, R: Threads + Wait + Sync + Clock + Eprint>(
+    rt: &R,
+    alloc: Global,
+    order: &SolveOrder,
+    is_watched: bool,
+    system: &mut S,
+    puzzle: &mut P,
+    output: &mut W,
+) -> Result<Exit, HintedFault>
+    ensures { SolveOf (solve_plan_of order.now)
+        (one_source documents.Puzzle (reading_of P.Source puzzle.old puzzle.new))
         (solved_files order.now.files S.does S.leads system.old system.new (writing_of W.Sink output.old output.new))
         (PutsAll order.now.files S.does system.old system.new (writing_of W.Sink output.old output.new))
         (unhinted result) }
 {
     let files = &order.files;
-    let mut puzzle = open(alloc, system, &files.puzzle, Document::Puzzle)?;
     if !are_apart(alloc, files, system)? {
         return Err(not_apart(alloc, files, system));
     }
@@ -213,7 +260,7 @@ fn solve<S: FileSystem, W: Sink, R: Threads + Wait + Sync + Clock + Eprint>(
     let mut made = make_files(alloc, &names, system)?;
     let progress = SolveProgress::new(rt, order.progress);
     let search = Watched {
-        plan: search_plan(order),
+        plan: solve_plan(order),
         watch: &progress,
         hints: are_told(order.hints, is_watched),
     };
@@ -222,7 +269,7 @@ fn solve<S: FileSystem, W: Sink, R: Threads + Wait + Sync + Clock + Eprint>(
         alloc,
         &search,
         &mut OneSource {
-            source: &mut puzzle,
+            source: puzzle,
             document: Document::Puzzle,
         },
         &mut ThreeSinks {
@@ -277,6 +324,21 @@ fn expansion_plan(order: &ExpandOrder, is_watched: bool) -> PrintingPlan
     PrintingPlan {
         printing: listing_of(order.orbits),
         hints: are_told(order.hints, is_watched),
+    }
+}
+
+// What a picture of all arrangements prints.
+fn picture_of_all(order: &DrawAllOrder) -> PrintingPlan
+    ensures { result.printing ≡ picture_printed order.now }
+{
+    let plan = PicturePlan {
+        number: order.number,
+        first: order.first,
+        numbers: order.numbers,
+    };
+    PrintingPlan {
+        printing: Printing::Picture(plan),
+        hints: true,
     }
 }
 

@@ -239,6 +239,19 @@ impl<R: Clock + Eprint> SolveWatch for SolveProgress<'_, R> {
         let _ = eprintln!(self.turns.rt; "solve: {advice}");
     }
 
+    fn checks(&self) {
+        if let Some(seconds) = self.turns.passed() {
+            self.tell(seconds);
+            let _ = eprintln!(self.turns.rt; "solve: checks what was found");
+        }
+    }
+
+    fn refuses(&self, answer: &[u8]) {
+        if let Ok(line) = str::from_utf8(answer) {
+            let _ = eprint!(self.turns.rt; "{line}");
+        }
+    }
+
     fn made(&self, list: usize, certificate: usize) {
         let Some(seconds) = self.turns.passed() else {
             return;

@@ -16,8 +16,8 @@ use crate::streams::Streams;
 use byte_streams::{Document, FileSystem, Refusal, Sink, Source, write_whole};
 use command_runs::{HintedFault, RunFault, fault_text};
 use command_words::{
-    CensusOrder, CheckOrder, DrawOrder, ExpandOrder, Files, Given, Order, PageOrder, PartPlaces,
-    Place, Subject, WordsFault, order,
+    CensusOrder, CheckOrder, DrawAllOrder, DrawOrder, ExpandOrder, Files, Given, Order, PageOrder,
+    PartPlaces, Place, Subject, WordsFault, order,
 };
 use std::alloc::Global;
 use std::random::RandomSource;
@@ -103,9 +103,8 @@ fn is_always_told(order: &Order, fault: &RunFault) -> bool {
         Order::Explain(_) | Order::ExplainPuzzle(_) | Order::Count(_) | Order::Census(_) => {
             is_of_texts(fault)
         }
-        Order::Show(_) | Order::Draw(_) | Order::Symmetries(_) | Order::Tiles(_) => {
-            is_of_texts(fault)
-        }
+        Order::Show(_) | Order::Draw(_) | Order::DrawAll(_) => is_of_texts(fault),
+        Order::Symmetries(_) | Order::Tiles(_) => is_of_texts(fault),
         // which of many files it is has to be said everywhere
         Order::Total(_) => true,
     }
@@ -162,9 +161,10 @@ fn file_of<'a>(order: &'a Order, document: Document) -> Option<&'a str> {
         Order::Check(CheckOrder { given, .. })
         | Order::Expand(ExpandOrder { given, .. })
         | Order::Page(PageOrder { given, .. })
+        | Order::DrawAll(DrawAllOrder { given, .. })
         | Order::Explain(given)
         | Order::Count(given) => file_of_given(given, document),
-        Order::Solve(order) => Some(name_in(&order.files, document)),
+        Order::Solve(order) => file_of_solve(&order.files, document),
         Order::ExplainPuzzle(place)
         | Order::Census(CensusOrder { puzzle: place, .. })
         | Order::Symmetries(place) => file_at(place),
@@ -175,11 +175,11 @@ fn file_of<'a>(order: &'a Order, document: Document) -> Option<&'a str> {
     }
 }
 
-fn name_in<'a>(files: &'a Files, document: Document) -> &'a str {
+fn file_of_solve<'a>(files: &'a Files, document: Document) -> Option<&'a str> {
     match document {
-        Document::List => &files.list,
-        Document::Certificate => &files.certificate,
-        Document::Puzzle | Document::Parts | Document::Input => &files.puzzle,
+        Document::List => Some(&files.list),
+        Document::Certificate => Some(&files.certificate),
+        Document::Puzzle | Document::Parts | Document::Input => file_at(&files.puzzle),
     }
 }
 
@@ -223,15 +223,17 @@ fn read_from_input(order: &Order) -> Option<&'static str> {
         Order::Check(CheckOrder { given, .. })
         | Order::Expand(ExpandOrder { given, .. })
         | Order::Page(PageOrder { given, .. })
+        | Order::DrawAll(DrawAllOrder { given, .. })
         | Order::Explain(given)
         | Order::Count(given) => given_on_input(given),
+        Order::Solve(order) => puzzle_alone(&order.files.puzzle),
         Order::ExplainPuzzle(place)
         | Order::Census(CensusOrder { puzzle: place, .. })
         | Order::Symmetries(place) => { puzzle_alone(place) }
         Order::Total(PartPlaces::Input) => Some("lines of counted parts"),
         Order::Total(PartPlaces::Files(_)) => None,
         Order::Show(subject) | Order::Draw(DrawOrder { subject, .. }) => one_of_subject(subject),
-        Order::Solve(_) | Order::Tiles(_) => None,
+        Order::Tiles(_) => None,
     }
 }
 

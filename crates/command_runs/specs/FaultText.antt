@@ -35,7 +35,7 @@ use Rattle.solver.specs.FaultText.{solve_fault_text}
 use Rattle.symmetry_orbits.specs.FaultText.{expand_fault_text}
 use Rattle.command_runs.specs.declared.faults.RunFault.{RunFault}
 use Rattle.command_runs.specs.declared.faults.RunFault.TheVariants.{Read, TooLong, Puzzle, List as Listing, Certificate, Parts, NoArrangement, Arrangement}
-use Rattle.command_runs.specs.declared.faults.RunFault.TheVariants.{Solve, Expand, Tiles, Write, Replaced, Memory}
+use Rattle.command_runs.specs.declared.faults.RunFault.TheVariants.{Solve, Refused, Expand, Tiles, Write, Replaced, Memory}
 
 -- ---- faults of parts, and want of memory, wherever it was met
 
@@ -110,6 +110,7 @@ run_fault_text (NoArrangement number) = codes "list: no arrangement " ++ decimal
 run_fault_text (Arrangement number fault) =
     codes "list: arrangement " ++ decimal number ++ codes ": " ++ arrangement_fault_text fault
 run_fault_text (Solve fault) = solve_fault_text fault
+run_fault_text Refused = codes "the check refuses what was found"
 run_fault_text Expand = expand_fault_text expansions.TooMany
 run_fault_text Tiles = tiles_fault_text tile_lists.TooMany
 run_fault_text Write = codes "cannot write"

@@ -9,6 +9,10 @@ use Rattle.cert_check.specs.declared.faults.Answer.{Answer}
 use Rattle.cert_check.specs.declared.faults.Answer.TheVariants.{Complete, Refused}
 use Rattle.match_report.specs.AnswerText.{answer_line}
 use Rattle.match_report.specs.CompleteLists.{AreAllInOrder, AreFirstsOf, IsCountOf, count_text}
+use Rattle.show_pictures.specs.Listed.{IsPictureFrom}
+use Rattle.show_pictures.specs.Plans.{IsNotDrawn}
+use Rattle.show_pictures.specs.declared.plans.NotDrawn.{NotDrawn}
+use Rattle.show_pictures.specs.declared.plans.NotDrawn.TheVariants as not_drawn
 use Rattle.show_refusals.specs.Explanation.{IsExplanation}
 use Rattle.symmetry_orbits.specs.Expansion.{AreMoreReached}
 use Rattle.symmetry_orbits.specs.Orbits.{AreMoreListedOrInOrbit}
@@ -23,7 +27,8 @@ use Rattle.command_runs.specs.declared.printing_runs.Printing.{Printing}
 use Rattle.command_runs.specs.declared.printing_runs.Printing.TheVariants as printings
 
 -- What is printed of what was asked. Where it is complete: the list of all arrangements or of one of each orbit, or how
--- many they are, or the answer. Where it is refused: the answer, and why, where that is to be explained.
+-- many they are, or a picture of some of all, or the answer. Where it is refused: the answer, and why, where that is to
+-- be explained.
 abbrev pub Prints : Question → Answer → Printing → List ℕ → Type 0
 Prints question Complete printings.All text =
     (all : List (List Placement)) × AreAllInOrder question all × IsListText all text
@@ -31,10 +36,14 @@ Prints question Complete printings.Orbits text =
     (firsts : List (List Placement)) × AreFirstsOf question firsts × IsListText firsts text
 Prints question Complete printings.Count text =
     (count : Count) × IsCountOf question count × (text ≡ count_text count (length question.symmetries))
+Prints question Complete (printings.Picture plan) text =
+    (all : List (List Placement)) × AreAllInOrder question all
+    × IsPictureFrom plan.number plan.first question.puzzle all text
 Prints question Complete printings.Explanation text = text ≡ answer_line Complete (length question.listed)
 Prints question (Refused fault) printings.All text = text ≡ answer_line (Refused fault) (length question.listed)
 Prints question (Refused fault) printings.Orbits text = text ≡ answer_line (Refused fault) (length question.listed)
 Prints question (Refused fault) printings.Count text = text ≡ answer_line (Refused fault) (length question.listed)
+Prints question (Refused fault) (printings.Picture plan) text = text ≡ answer_line (Refused fault) (length question.listed)
 Prints question (Refused fault) printings.Explanation text =
     (why : List ℕ) × IsExplanation question fault why
     × (text ≡ answer_line (Refused fault) (length question.listed) ++ why)
@@ -49,11 +58,20 @@ PrintingGives printing texts printed status =
 abbrev pub AreTooMany : Printing → Question → Type 0
 AreTooMany printings.All question =
     AreMoreReached MOST_ARRANGEMENTS question.puzzle question.symmetries question.listed
+AreTooMany (printings.Picture plan) question =
+    AreMoreReached MOST_ARRANGEMENTS question.puzzle question.symmetries question.listed
 AreTooMany printings.Orbits question =
     AreMoreListedOrInOrbit MOST_ARRANGEMENTS question.puzzle question.symmetries question.listed
 AreTooMany printings.Count question =
     AreMoreListedOrInOrbit MOST_ARRANGEMENTS question.puzzle question.symmetries question.listed
 AreTooMany printings.Explanation question = ⊥
+
+-- Nothing is drawn of all arrangements, for this reason.
+abbrev pub IsNoneDrawn : Printing → Question → NotDrawn → Type 0
+IsNoneDrawn (printings.Picture plan) question fault =
+    (all : List (List Placement)) × AreAllInOrder question all
+    × IsNotDrawn plan.number plan.first question.puzzle all fault
+IsNoneDrawn printing question fault = ⊥
 
 -- What is printed of a question, and the status: what was asked of its answer.
 pub record IsPrinted (printing : Printing) (question : Question) (printed : List ℕ) (status : Status) : Type 0 where
@@ -63,9 +81,14 @@ pub record IsPrinted (printing : Printing) (question : Question) (printed : List
   pub is : Prints question answer printing printed
   pub ends : status ≡ status_of answer
 
--- What a fault says of a question: its list is complete, and too much is to be printed so; or it is want of memory.
+-- What a fault says of a question: its list is complete, and too much is to be printed so, or nothing is to be drawn; or
+-- it is want of memory.
 abbrev pub QuestionFails : Printing → Question → RunFault → Type 0
 QuestionFails printing question runs.Expand = IsAnswer question Complete × AreTooMany printing question
+QuestionFails printing question (runs.NoArrangement at) =
+    IsAnswer question Complete × IsNoneDrawn printing question (not_drawn.NoArrangement at)
+QuestionFails printing question (runs.Arrangement at fault) =
+    IsAnswer question Complete × IsNoneDrawn printing question (not_drawn.Arrangement at fault)
 QuestionFails printing question runs.Memory = Unit {0}
 QuestionFails printing question fault = ⊥
 
@@ -74,7 +97,16 @@ abbrev pub SpellTooMany : Printing → Texts → Type 0
 SpellTooMany printing texts =
     (question : Question) × Spells texts question × IsAnswer question Complete × AreTooMany printing question
 
--- What a fault says of the documents: too much is to be printed of them, or they have it, or it is want of memory.
+-- The list is complete, and nothing is drawn of all arrangements.
+abbrev pub SpellNoneDrawn : Printing → Texts → NotDrawn → Type 0
+SpellNoneDrawn printing texts fault =
+    (question : Question) × Spells texts question × IsAnswer question Complete × IsNoneDrawn printing question fault
+
+-- What a fault says of the documents: too much is to be printed of them, or nothing is to be drawn, or they have it, or it
+-- is want of memory.
 abbrev pub PrintingFails : Printing → Texts → RunFault → Type 0
 PrintingFails printing texts runs.Expand = SpellTooMany printing texts
+PrintingFails printing texts (runs.NoArrangement at) = SpellNoneDrawn printing texts (not_drawn.NoArrangement at)
+PrintingFails printing texts (runs.Arrangement at fault) =
+    SpellNoneDrawn printing texts (not_drawn.Arrangement at fault)
 PrintingFails printing texts fault = CheckFails texts fault

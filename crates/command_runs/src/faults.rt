@@ -39,6 +39,8 @@ pub enum RunFault {
     Arrangement(u32, ArrangementFault),
     /// The puzzle was not solved.
     Solve(SolveFault),
+    /// The list of a solve is refused by the check of it.
+    Refused,
     /// The symmetries reach more arrangements than may be listed.
     Expand,
     /// There are more tiles than may be listed.
@@ -75,6 +77,7 @@ impl fmt::Display for RunFault {
                 "list: arrangement {number}: {fault}"
             ),
             RunFault::Solve(fault) => write!(f, "{fault}"),
+            RunFault::Refused => f.write_str("the check refuses what was found"),
             RunFault::Expand => write!(f, "{}", ExpandFault::TooMany),
             RunFault::Tiles => write!(f, "{}", TilesFault::TooMany),
             RunFault::Write => f.write_str("cannot write"),

@@ -37,7 +37,7 @@ pub use picture_runs::run_picture;
 pub use printing_runs::{Printing, PrintingPlan, run_expand, run_printing};
 pub use readings::read_whole;
 pub use show_pictures::PicturePlan;
-pub use solve_runs::{run_solve, run_solve_watched};
+pub use solve_runs::{SolvePlan, run_solve, run_solve_watched};
 pub use solver::SearchPlan;
 pub use symmetry_orbits::RandomFold;
 pub use tile_runs::{run_tile_lines, run_tiles};

@@ -15,10 +15,10 @@ ghost use Rattle.command_runs.specs.declared.printing_runs.Printing.TheVariants 
 
 use crate::faults::RunFault;
 use crate::hints::{HintedFault, hint_of, with_hint};
-use crate::questions::read_question;
+use crate::questions::{checked, read_question};
 use crate::running::run_by;
 use byte_streams::{Documents, Inputs, MadeText, Outputs, OwnedDocuments};
-use cert_check::{Answer, Fault, Open, Prepared, Question};
+use cert_check::{Answer, Fault, Prepared, Question};
 use match_limits::Drawn;
 use match_report::{ExpandFault, Status, count_complete, write_verdict};
 use show_page::{ListTexts, PageCounts, draw_pictures, write_page};
@@ -94,34 +94,13 @@ fn question_page(
     ensures { MadeOf (IsPagePrinted (texts_of documents.now) plan.now) (QuestionFails printings.Count) question.now
         result }
 {
-    match question.prepare(alloc, question.list_fault())? {
-        Ok(prepared) => prepared_page(alloc, &prepared, documents, plan, hasher),
-        Err(fault) => {
-            let text = refused_line(alloc, question, fault)?;
-            Ok((MadeText::new(text), Status::Refused))
-        }
-    }
-}
-
-// What to print of a question of which only a tree may have a fault.
-fn prepared_page(
-    alloc: Global,
-    prepared: &Prepared<'_>,
-    documents: &Documents<'_>,
-    plan: &PagePlan<'_>,
-    hasher: RandomFold,
-) -> Result<(MadeText, Status), RunFault>
-    ensures { MadeOf (IsPagePrinted (texts_of documents.now) plan.now) (QuestionFails printings.Count) prepared.now
-        result }
-{
-    let found = prepared.trees_fault(alloc, &Open)?;
-    match prepared.answer(found) {
-        Answer::Complete => {
-            let text = complete_page(alloc, prepared, documents, plan, hasher)?;
+    match checked(alloc, question)? {
+        Ok(prepared) => {
+            let text = complete_page(alloc, &prepared, documents, plan, hasher)?;
             Ok((MadeText::new(text), Status::Complete))
         }
-        Answer::Refused(fault) => {
-            let text = refused_line(alloc, prepared.question(), fault)?;
+        Err(fault) => {
+            let text = refused_line(alloc, question, fault)?;
             Ok((MadeText::new(text), Status::Refused))
         }
     }

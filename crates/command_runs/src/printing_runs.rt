@@ -1,6 +1,6 @@
 //! Runs that check a list, and print all arrangements, or why the list is refused.
 
-ghost use Rattle.std.specs.Prelude.{◌≡◌, IfOk, length};
+ghost use Rattle.std.specs.Prelude.{◌≡◌, IfErr, IfOk, length};
 ghost use Rattle.puzzle_symmetry.specs.Complete.{IsCompleteList};
 ghost use Rattle.cert_check.specs.Answer.{IsAnswer};
 ghost use Rattle.cert_check.specs.declared.faults.Answer.TheVariants.{Complete, Refused};
@@ -9,17 +9,20 @@ ghost use Rattle.byte_streams.specs.Moves.{reading_of, writing_of};
 ghost use Rattle.byte_streams.specs.Origins.{three_sources};
 ghost use Rattle.byte_streams.specs.Targets.{one_sink};
 ghost use Rattle.command_runs.specs.Printing.{IsPrinted, PrintingFails, PrintingGives, Prints, QuestionFails};
-ghost use Rattle.command_runs.specs.Runs.{MadeOf, Runs, unhinted};
+ghost use Rattle.command_runs.specs.Runs.{IsOfTexts, MadeOf, Runs, unhinted};
 
 use crate::faults::RunFault;
 use crate::hints::{HintedFault, hint_of, with_hint, without_hint};
-use crate::questions::read_question;
+use crate::questions::{checked, read_question};
 use crate::running::run_by;
 use byte_streams::{
     Inputs, MadeText, OneSink, Outputs, OwnedDocuments, Sink, Source, ThreeSources,
 };
-use cert_check::{Answer, Fault, Open, Prepared, Question};
-use match_report::{Status, write_all, write_answer, write_counts, write_orbits, write_verdict};
+use cert_check::{Answer, Fault, Prepared, Question};
+use match_report::{
+    Status, expand_complete, write_all, write_answer, write_counts, write_orbits, write_verdict,
+};
+use show_pictures::{PicturePlan, write_listed_picture};
 use show_refusals::write_explanation;
 use std::alloc::{AllocError, Global};
 use std::random::RandomSource;
@@ -34,6 +37,8 @@ pub enum Printing {
     Orbits,
     /// How many arrangements, pictures and orbits there are, and how many symmetries the certificate names.
     Count,
+    /// A picture of arrangements, numbered as in the list of all.
+    Picture(PicturePlan),
     /// The answer and, where it is a refusal, the reason.
     Explanation,
 }
@@ -79,8 +84,8 @@ pub fn run_expand<P: Source, L: Source, C: Source, W: Sink, R: RandomSource>(
 
 /// Reads a puzzle, a list and a certificate, and checks them, wherever the documents come from and the text goes to.
 /// Then it prints what the plan asks for: the list of all arrangements; the first listed one of each orbit; how many
-/// there are; or the answer with, where the list is refused, the reason. Where the list is refused, the first three
-/// print the answer alone.
+/// there are; a picture of some of all arrangements; or the answer with, where the list is refused, the reason. Where
+/// the list is refused, the first four print the answer alone.
 ///
 /// A count has four lines:
 ///
@@ -89,9 +94,10 @@ pub fn run_expand<P: Source, L: Source, C: Source, W: Sink, R: RandomSource>(
 /// - `orbits K`: how many, if those that the certificate's symmetries take into each other count once
 /// - `symmetries S`: how many symmetries the certificate names
 ///
-/// `Expand` comes where over 1,000,000 arrangements are to be listed; for orbits and for a count, where over 1,000,000
-/// are in one orbit. Where a hint is wanted and a text has a fault, the hint says what has to be changed there, unless
-/// memory is refused to it.
+/// `Expand` comes where over 1,000,000 arrangements are to be listed or drawn of; for orbits and for a count, where over
+/// 1,000,000 are in one orbit. `NoArrangement` comes where there is none with the number of the first that is to be
+/// drawn. Where a hint is wanted and a text has a fault, the hint says what has to be changed there, unless memory is
+/// refused to it.
 pub fn run_printing<
     I: Inputs<Texts = OwnedDocuments>,
     O: Outputs<Made = MadeText>,
@@ -148,29 +154,10 @@ fn question_text(
 ) -> Result<(MadeText, Status), RunFault>
     ensures { MadeOf (IsPrinted printing) (QuestionFails printing) question.now result }
 {
-    match question.prepare(alloc, question.list_fault())? {
-        Ok(prepared) => prepared_text(alloc, prepared, explaining, printing),
+    match checked(alloc, question)? {
+        Ok(prepared) => complete_text(alloc, prepared, explaining.hasher, printing),
         Err(fault) => {
             let text = refused_text(alloc, question, fault, explaining, printing)?;
-            Ok((MadeText::new(text), Status::Refused))
-        }
-    }
-}
-
-// What to print about a question of which only a tree may have a fault.
-fn prepared_text(
-    alloc: Global,
-    prepared: Prepared<'_>,
-    explaining: &Explaining<'_>,
-    printing: Printing,
-) -> Result<(MadeText, Status), RunFault>
-    ensures { MadeOf (IsPrinted printing) (QuestionFails printing) prepared.entry result }
-{
-    let found = prepared.trees_fault(alloc, &Open)?;
-    match prepared.answer(found) {
-        Answer::Complete => complete_text(alloc, prepared, explaining.hasher, printing),
-        Answer::Refused(fault) => {
-            let text = refused_text(alloc, prepared.question(), fault, explaining, printing)?;
             Ok((MadeText::new(text), Status::Refused))
         }
     }
@@ -190,9 +177,27 @@ fn complete_text(
         Printing::All => write_all(alloc, prepared, hasher)?,
         Printing::Orbits => write_orbits(alloc, &prepared, hasher)?,
         Printing::Count => write_counts(alloc, &prepared, hasher)?,
+        Printing::Picture(plan) => picture_of_all(alloc, prepared, hasher, plan)?,
         Printing::Explanation => complete_line(alloc, &prepared)?,
     };
     Ok((MadeText::new(text), Status::Complete))
+}
+
+// A picture of some of all arrangements.
+fn picture_of_all(
+    alloc: Global,
+    prepared: Prepared<'_>,
+    hasher: RandomFold,
+    plan: PicturePlan,
+) -> Result<Vec<u8>, RunFault>
+    requires { IsAnswer prepared Complete × IsCompleteList prepared.puzzle prepared.symmetries prepared.listed }
+    ensures drawn { IfOk result (λ text. Prints prepared.entry Complete (Printing.Picture plan) text.items) }
+    ensures fails { IfErr result (λ fault. QuestionFails (Printing.Picture plan) prepared.entry fault × IsOfTexts fault) }
+{
+    let puzzle = prepared.question().puzzle();
+    let all = expand_complete(alloc, prepared, hasher)?;
+    let picture = write_listed_picture(alloc, puzzle, all.as_slice(), &plan)?;
+    Ok(picture)
 }
 
 // The answer that a list is complete.
@@ -222,7 +227,7 @@ fn refused_text(
     ensures { IfOk result (λ text. Prints question.now (Refused fault) printing text.items) }
 {
     match printing {
-        Printing::All | Printing::Orbits | Printing::Count => {
+        Printing::All | Printing::Orbits | Printing::Count | Printing::Picture(_) => {
             let verdict = write_verdict(alloc, question, &Answer::Refused(fault))?;
             Ok(verdict.line)
         }

@@ -1,19 +1,22 @@
 //! The questions that documents ask.
 
-ghost use Rattle.std.specs.Prelude.{◌≤◌};
+ghost use Rattle.std.specs.Prelude.{◌≡◌, ◌≤◌, IfErr, IfOk};
 ghost use Rattle.match_limits.specs.declared.TheConstants.{MOST_WORKERS};
+ghost use Rattle.puzzle_symmetry.specs.Complete.{IsCompleteList};
+ghost use Rattle.cert_check.specs.Answer.{IsAnswer};
+ghost use Rattle.cert_check.specs.declared.faults.Answer.TheVariants.{Complete, Refused};
 ghost use Rattle.byte_streams.specs.Documents.{AreShort};
 ghost use Rattle.byte_streams.specs.LentTexts.{texts_of};
 ghost use Rattle.command_runs.specs.Checking.{ReadsQuestion};
 
 use crate::faults::RunFault;
 use byte_streams::Documents;
-use cert_check::Question;
+use cert_check::{Answer, Fault, Open, Prepared, Question};
 use cert_text::read_certificate;
 use cert_tree::Certificate;
 use match_puzzle::{Arrangement, Puzzle};
 use match_text::{read_list, read_puzzle};
-use std::alloc::Global;
+use std::alloc::{AllocError, Global};
 use std::marker::Model;
 use std::thread::Threads;
 use text_crew::{ReadTexts, read_texts_with};
@@ -94,4 +97,27 @@ pub fn read_question_with<R: Threads + Sync>(
         listed,
         certificate,
     })
+}
+
+/// Checks a question on one thread. Returns it, prepared, where the list is complete; else the fault for which it is
+/// refused. An `Err` comes where memory is refused.
+pub(crate) fn checked<'a>(
+    alloc: Global,
+    question: &'a Question<'_>,
+) -> Result<Result<Prepared<'a>, Fault>, AllocError>
+    ensures same { IfOk result (λ r. IfOk r (λ prepared. prepared ≡ question.now)) }
+    ensures answer { IfOk result (λ r. IfOk r (λ prepared. IsAnswer question.now Complete)) }
+    ensures complete { IfOk result (λ r. IfOk r (λ prepared.
+        IsCompleteList question.now.puzzle question.now.symmetries question.now.listed)) }
+    ensures refused { IfOk result (λ r. IfErr r (λ fault. IsAnswer question.now (Refused fault))) }
+{
+    let prepared = match question.prepare(alloc, question.list_fault())? {
+        Ok(prepared) => prepared,
+        Err(fault) => return Ok(Err(fault)),
+    };
+    let found = prepared.trees_fault(alloc, &Open)?;
+    match prepared.answer(found) {
+        Answer::Complete => Ok(Ok(prepared)),
+        Answer::Refused(fault) => Ok(Err(fault)),
+    }
 }

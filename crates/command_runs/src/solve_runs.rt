@@ -1,14 +1,17 @@
 //! Runs of the solver.
 
-ghost use Rattle.std.specs.Prelude.{◌≡◌, ℕ, List, IfOk, Ok, length};
+ghost use Rattle.std.specs.Prelude.{◌≡◌, ℕ, List, ◌<◌, ◌^◌, IfErr, IfOk, Ok, length, true};
+ghost use Rattle.match_text.specs.Lists.{list_of};
 ghost use Rattle.match_text.specs.Puzzles.{PuzzleReads};
 ghost use Rattle.match_puzzle.specs.Arrangement.{AreArrangements};
+ghost use Rattle.text_crew.specs.Texts.{ReadsBack};
 ghost use Rattle.byte_streams.specs.Moves.{reading_of, writing_of};
 ghost use Rattle.byte_streams.specs.Origins.{one_source};
 ghost use Rattle.byte_streams.specs.Targets.{three_sinks};
 ghost use Rattle.byte_streams.specs.declared.faults.Document.TheVariants as documents;
 ghost use Rattle.command_runs.specs.Runs.{MadeOf, Runs, unhinted};
-ghost use Rattle.command_runs.specs.Solving.{AreProducts, IsFound, SolveFails, SolveGives, SolveGivesOf, first_board, report_text, shares_of};
+ghost use Rattle.command_runs.specs.Solving.{AreProducts, IsFound, IsFoundComplete, IsNotChecked, SolveFails, SolveFailsOf, SolveGives};
+ghost use Rattle.command_runs.specs.Solving.{SolveGivesOf, checked_line, first_board, report_text, shares_of};
 
 use crate::advice::{solve_hint, word_before};
 use crate::faults::RunFault;
@@ -18,10 +21,11 @@ use crate::watches::{SolveWatch, Watched};
 use byte_streams::{
     Document, Inputs, MadeText, OneSource, Outputs, Products, Sink, Source, Text, ThreeSinks,
 };
+use cert_check::{Answer, Open, Question, check_question};
 use cert_tree::Certificate;
 use match_limits::{Depth, Fuel, MOST_WORKERS, Workers};
 use match_puzzle::{Arrangement, Puzzle};
-use match_report::{Taken, write_board, write_tally};
+use match_report::{Taken, write_answer, write_board, write_tally, write_verdict};
 use match_text::read_puzzle;
 use solver::{SearchPlan, Solved, Suggested, Unwatched, solve_watched};
 use std::alloc::{AllocError, Global};
@@ -29,6 +33,14 @@ use std::sync::Wait;
 use std::thread::Threads;
 use text_crew::write_texts_with;
 use text_words::put_number_line;
+
+/// How a puzzle is solved.
+#[derive(Clone, Copy)]
+pub struct SolvePlan {
+    pub search: SearchPlan,
+    /// Whether what was found is checked before anything is written.
+    pub check: bool,
+}
 
 /// Reads a puzzle to its end, and searches for all its arrangements. Writes their list, then a certificate for it, then
 /// a report: how many were found, by how many lemmas, who took which lemma, and the first arrangement as it lies on the
@@ -63,11 +75,15 @@ pub fn run_solve<R: Threads + Wait + Sync, P: Source, L: Sink, C: Sink, W: Sink>
         certificate,
         report: writer,
     };
-    let plan = SearchPlan {
+    let search = SearchPlan {
         depth,
         fuel,
         workers,
         symmetries: Suggested::All,
+    };
+    let plan = SolvePlan {
+        search,
+        check: false,
     };
     let search = Watched {
         plan,
@@ -78,9 +94,14 @@ pub fn run_solve<R: Threads + Wait + Sync, P: Source, L: Sink, C: Sink, W: Sink>
 }
 
 /// Solves as [`run_solve`] does, by this plan, wherever the puzzle comes from and the texts go to. The watch is told of
-/// the search while it runs. Each symmetry of the certificate is one of those that the plan asks for. Where a hint is
-/// wanted, it says what has to be changed in a text that has a fault; for a search that gave up or found too many, how
-/// many arrangements may be expected, and what may help. There is no hint where memory is refused to it.
+/// the search while it runs. Each symmetry of the certificate is one of those that the plan asks for.
+///
+/// Where the plan has a check, what was found is checked before anything is written. What is written is then a complete
+/// list with its certificate, and the report ends with the line `complete N`. `Refused` comes where the check refuses
+/// what was found, and the watch is told its answer.
+///
+/// Where a hint is wanted, it says what has to be changed in a text that has a fault; for a search that gave up or found
+/// too many, how many arrangements may be expected, and what may help. There is no hint where memory is refused to it.
 pub fn run_solve_watched<
     R: Threads + Wait + Sync,
     T: SolveWatch + Sync,
@@ -89,22 +110,21 @@ pub fn run_solve_watched<
 >(
     rt: &R,
     alloc: Global,
-    search: &Watched<'_, SearchPlan, T>,
+    search: &Watched<'_, SolvePlan, T>,
     inputs: &mut I,
     outputs: &mut O,
 ) -> Result<(), HintedFault>
     ensures same { I.same inputs.old inputs.new × O.same outputs.old outputs.new }
-    ensures run { Runs (I.reads inputs.old inputs.new) (SolveGivesOf search.now.plan.symmetries search.now.plan.workers) SolveFails
+    ensures run { Runs (I.reads inputs.old inputs.new) (SolveGivesOf search.now.plan) (SolveFailsOf search.now.plan.check)
         (O.writes outputs.old outputs.new) (unhinted result) }
 {
     let mut hint = None;
     let make = |text: &Text| -> Result<(Products, ()), RunFault>
-        ensures { MadeOf (SolveGivesOf search.entry.now.plan.symmetries search.entry.now.plan.workers) SolveFails
-            text.now result }
+        ensures { MadeOf (SolveGivesOf search.entry.now.plan) (SolveFailsOf search.entry.now.plan.check) text.now result }
     {
         let made = make_products(rt, alloc, text, search);
         if let (true, Err(fault)) = (search.hints, &made) {
-            hint = solve_hint(alloc, text.bytes(), &search.plan, fault);
+            hint = solve_hint(alloc, text.bytes(), &search.plan.search, fault);
         }
         made
     };
@@ -117,9 +137,9 @@ fn make_products<R: Threads + Wait + Sync, T: SolveWatch + Sync>(
     rt: &R,
     alloc: Global,
     text: &Text,
-    search: &Watched<'_, SearchPlan, T>,
+    search: &Watched<'_, SolvePlan, T>,
 ) -> Result<(Products, ()), RunFault>
-    ensures { MadeOf (SolveGivesOf search.now.plan.symmetries search.now.plan.workers) SolveFails text.now result }
+    ensures { MadeOf (SolveGivesOf search.now.plan) (SolveFailsOf search.now.plan.check) text.now result }
 {
     let puzzle = read_puzzle(alloc, text.bytes())?;
     tell_before(alloc, &puzzle, search);
@@ -127,11 +147,11 @@ fn make_products<R: Threads + Wait + Sync, T: SolveWatch + Sync>(
 }
 
 // Where hints are wanted, says that more arrangements may be expected than a list can have.
-fn tell_before<T: SolveWatch>(alloc: Global, puzzle: &Puzzle, search: &Watched<'_, SearchPlan, T>) {
+fn tell_before<T: SolveWatch>(alloc: Global, puzzle: &Puzzle, search: &Watched<'_, SolvePlan, T>) {
     if !search.hints {
         return;
     }
-    if let Some(advice) = word_before(alloc, puzzle, &search.plan) {
+    if let Some(advice) = word_before(alloc, puzzle, &search.plan.search) {
         search.watch.expects_many(&advice);
     }
 }
@@ -141,18 +161,18 @@ fn solved<R: Threads + Wait + Sync, T: SolveWatch + Sync>(
     rt: &R,
     alloc: Global,
     puzzle: &Puzzle,
-    search: &Watched<'_, SearchPlan, T>,
+    search: &Watched<'_, SolvePlan, T>,
 ) -> Result<(Products, ()), RunFault>
     ensures { (text : List ℕ) → PuzzleReads text (Ok puzzle.now)
-        → MadeOf (SolveGivesOf search.now.plan.symmetries search.now.plan.workers) SolveFails text result }
+        → MadeOf (SolveGivesOf search.now.plan) (SolveFailsOf search.now.plan.check) text result }
 {
     // There are at most 64, and so are the lines of the report.
-    let _workers_in_range = search.plan.workers.get();
+    let _workers_in_range = search.plan.search.workers.get();
     let Solved {
         list: listed,
         certificate,
         tally,
-    } = solve_watched(rt, alloc, puzzle, search.plan, search.watch)?;
+    } = solve_watched(rt, alloc, puzzle, search.plan.search, search.watch)?;
     let shares = shares(alloc, tally)?;
     let found = Found {
         puzzle,
@@ -160,6 +180,7 @@ fn solved<R: Threads + Wait + Sync, T: SolveWatch + Sync>(
         certificate: &certificate,
         shares: &shares,
     };
+    check_if_asked(rt, alloc, &found, search)?;
     let products = products_of(rt, alloc, &found, search)?;
     Ok((products, ()))
 }
@@ -173,20 +194,49 @@ struct Found<'a> {
     shares: &'a [Taken],
 }
 
-// The texts of what was found.
+// Checks what was found, where that is asked for. An `Err` is `Refused`, or `Memory`.
+fn check_if_asked<R: Threads + Wait + Sync, T: SolveWatch + Sync>(
+    rt: &R,
+    alloc: Global,
+    found: &Found<'_>,
+    search: &Watched<'_, SolvePlan, T>,
+) -> Result<(), RunFault>
+    requires found { IsFound found.now }
+    ensures complete { IfOk result (λ _. search.now.plan.check ≡ true → IsFoundComplete found.now) }
+    ensures refused { IfErr result (IsNotChecked search.now.plan.check found.now) }
+{
+    if !search.plan.check {
+        return Ok(());
+    }
+    search.watch.checks();
+    let question = Question::new(found.puzzle, found.listed, found.certificate);
+    let workers = search.plan.search.workers.get() as u8;
+    match check_question(rt, alloc, &question, workers, 0, &Open)? {
+        Answer::Complete => Ok(()),
+        refused => {
+            let verdict = write_verdict(alloc, &question, &refused)?;
+            search.watch.refuses(&verdict.line);
+            Err(RunFault::Refused)
+        }
+    }
+}
+
+// The texts of what was found. Those of the list and of the certificate read back as these.
 fn products_of<R: Threads + Wait + Sync, T: SolveWatch + Sync>(
     rt: &R,
     alloc: Global,
     found: &Found<'_>,
-    search: &Watched<'_, SearchPlan, T>,
+    search: &Watched<'_, SolvePlan, T>,
 ) -> Result<Products, AllocError>
     requires found { IsFound found.now }
-    ensures { IfOk result (AreProducts found.now.puzzle.now found.now.listed.now found.now.certificate.now
-        found.now.shares.now) }
+    ensures made { IfOk result (AreProducts found.now.puzzle.now found.now.listed.now found.now.certificate.now
+        found.now.shares.now search.now.plan.check) }
+    ensures list_reads { IfOk result (λ made. list_of made.list ≡ Ok found.now.listed.now) }
+    ensures certificate_reads { IfOk result (λ made. ReadsBack made.certificate found.now.certificate.now) }
 {
-    let workers = search.plan.workers.get() as u8;
+    let workers = search.plan.search.workers.get() as u8;
     let texts = write_texts_with(rt, alloc, found.listed, found.certificate, workers)?;
-    let report = report_on(alloc, found)?;
+    let report = report_on(alloc, found, search.plan.check)?;
     search
         .watch
         .made(bytes_in(&texts.list), bytes_in(&texts.certificate));
@@ -213,11 +263,12 @@ fn shares(alloc: Global, tally: Vec<Vec<u32>>) -> Result<Vec<Taken>, AllocError>
     tally.into_iter().map(Taken::new).collect(alloc)
 }
 
-// The report: how many were found, by how many lemmas, who took them, and the first arrangement.
-fn report_on(alloc: Global, found: &Found<'_>) -> Result<Vec<u8>, AllocError>
+// The report: how many were found, by how many lemmas, who took them, and the first arrangement; and the answer where
+// they were checked.
+fn report_on(alloc: Global, found: &Found<'_>, check: bool) -> Result<Vec<u8>, AllocError>
     requires { IsFound found.now }
     ensures { IfOk result (λ text. text.items ≡ report_text found.now.puzzle.now found.now.listed.now
-        (length found.now.certificate.now.lemmas) found.now.shares.now) }
+        (length found.now.certificate.now.lemmas) found.now.shares.now check) }
 {
     let mut text = Vec::new(alloc);
     put_number_line(&mut text, b"found", found.listed.len() as u64)?;
@@ -228,7 +279,19 @@ fn report_on(alloc: Global, found: &Found<'_>) -> Result<Vec<u8>, AllocError>
     )?;
     text.extend_from_slice(&write_tally(alloc, found.shares)?)?;
     text.extend_from_slice(&board_of_first(alloc, found.puzzle, found.listed)?)?;
+    text.extend_from_slice(&line_of_check(alloc, found.listed, check)?)?;
     Ok(text)
+}
+
+// The answer that these are complete, where they were checked.
+fn line_of_check(alloc: Global, listed: &[Arrangement], check: bool) -> Result<Vec<u8>, AllocError>
+    requires { length listed.now < 2 ^ 32 }
+    ensures { IfOk result (λ text. text.items ≡ checked_line check (length listed.now)) }
+{
+    if !check {
+        return Ok(Vec::new(alloc));
+    }
+    write_answer(alloc, &Answer::Complete, listed.len() as u32)
 }
 
 // The first arrangement as it lies on the board, if there is one.

@@ -35,12 +35,22 @@ pub trait SolveWatch: Watch {
     /// The advice is what may help.
     fn expects_many(&self, advice: &str);
 
+    /// Is called before what was found is checked.
+    fn checks(&self);
+
+    /// Is called where the check refuses what was found, with the line of its answer.
+    fn refuses(&self, answer: &[u8]);
+
     /// Is called when a list and a certificate with this many bytes are going to be written.
     fn made(&self, list: usize, certificate: usize);
 }
 
 impl SolveWatch for Unwatched {
     fn expects_many(&self, _advice: &str) {}
+
+    fn checks(&self) {}
+
+    fn refuses(&self, _answer: &[u8]) {}
 
     fn made(&self, _list: usize, _certificate: usize) {}
 }

@@ -48,11 +48,14 @@ solve_fuel rows m = has_number (command_at (codes "solve")) rows (rule_at (comma
 pub solve_workers : (rows : List Row) → AreMatchesOf (codes "solve") rows → HasNumber (codes "workers") 1 64 rows
 solve_workers rows m = has_number (command_at (codes "solve")) rows (rule_at (command_at (codes "solve")) 5) 1 64 (solve_needed rows m) refl refl refl
 
+pub solve_check : (rows : List Row) → AreMatchesOf (codes "solve") rows → HasFlag (codes "check") rows
+solve_check rows m = has_flag (command_at (codes "solve")) rows (rule_at (command_at (codes "solve")) 7) (solve_needed rows m) refl refl refl
+
 pub solve_progress : (rows : List Row) → AreMatchesOf (codes "solve") rows → HasFlag (codes "progress") rows
-solve_progress rows m = has_flag (command_at (codes "solve")) rows (rule_at (command_at (codes "solve")) 7) (solve_needed rows m) refl refl refl
+solve_progress rows m = has_flag (command_at (codes "solve")) rows (rule_at (command_at (codes "solve")) 8) (solve_needed rows m) refl refl refl
 
 pub solve_hints : (rows : List Row) → AreMatchesOf (codes "solve") rows → HasFlag (codes "hints") rows
-solve_hints rows m = has_flag (command_at (codes "solve")) rows (rule_at (command_at (codes "solve")) 8) (solve_needed rows m) refl refl refl
+solve_hints rows m = has_flag (command_at (codes "solve")) rows (rule_at (command_at (codes "solve")) 9) (solve_needed rows m) refl refl refl
 
 -- ---- `expand`
 
@@ -127,7 +130,7 @@ pub draw_first : (rows : List Row) → AreMatchesOf (codes "draw") rows → HasN
 draw_first rows m = has_number (command_at (codes "draw")) rows (rule_at (command_at (codes "draw")) 3) 0 100 (draw_needed rows m) refl refl refl
 
 pub draw_numbers : (rows : List Row) → AreMatchesOf (codes "draw") rows → HasFlag (codes "numbers") rows
-draw_numbers rows m = has_flag (command_at (codes "draw")) rows (rule_at (command_at (codes "draw")) 4) (draw_needed rows m) refl refl refl
+draw_numbers rows m = has_flag (command_at (codes "draw")) rows (rule_at (command_at (codes "draw")) 5) (draw_needed rows m) refl refl refl
 
 -- ---- `symmetries`
 

@@ -49,6 +49,7 @@ no_count rows listed searched (orders.Census order) is = searched order.puzzle o
 no_count rows listed searched (orders.Total parts) is = differ (codes "count") (codes "total") refl is.0
 no_count rows listed searched (orders.Show subject) is = differ (codes "count") (codes "show") refl is.0
 no_count rows listed searched (orders.Draw order) is = differ (codes "count") (codes "draw") refl is.0
+no_count rows listed searched (orders.DrawAll order) is = differ (codes "count") (codes "draw") refl is.0
 no_count rows listed searched (orders.Symmetries puzzle) is = differ (codes "count") (codes "symmetries") refl is.0
 no_count rows listed searched (orders.Tiles order) is = differ (codes "count") (codes "tiles") refl is.0
 
@@ -67,6 +68,7 @@ no_solve rows none (orders.Census order) is = differ (codes "solve") (codes "cou
 no_solve rows none (orders.Total parts) is = differ (codes "solve") (codes "total") refl is.0
 no_solve rows none (orders.Show subject) is = differ (codes "solve") (codes "show") refl is.0
 no_solve rows none (orders.Draw order) is = differ (codes "solve") (codes "draw") refl is.0
+no_solve rows none (orders.DrawAll order) is = differ (codes "solve") (codes "draw") refl is.0
 no_solve rows none (orders.Symmetries puzzle) is = differ (codes "solve") (codes "symmetries") refl is.0
 no_solve rows none (orders.Tiles order) is = differ (codes "solve") (codes "tiles") refl is.0
 

@@ -59,7 +59,7 @@ with_rules = fold with_rule
 abbrev pub with_puzzle : App → App
 with_puzzle app = with_rule app (wanted (codes "PUZZLE"))
 
--- three files by their names
+-- a puzzle by where it stands, and two files by their names
 abbrev pub with_files : App → App
 with_files app = with_rules (with_puzzle app) (wanted (codes "LIST") ∷ wanted (codes "CERTIFICATE") ∷ [])
 
@@ -87,6 +87,7 @@ solve_app =
     ∷ optional_number (codes "fuel") 1 MOST_FUEL (codes "1000000")
     ∷ optional_number (codes "workers") 1 MOST_WORKERS (codes "1")
     ∷ text_or_default (codes "symmetries") (codes "all")
+    ∷ flag (codes "check")
     ∷ flag (codes "progress")
     ∷ flag (codes "hints")
     ∷ [])
@@ -125,6 +126,7 @@ draw_app =
     (new_rule (codes "LIST")
     ∷ number_or_default (codes "N") 0 LAST_ARRANGEMENT (codes "0")
     ∷ optional_number (codes "first") 0 MOST_DRAWN (codes "0")
+    ∷ optional_text (codes "all")
     ∷ flag (codes "numbers")
     ∷ [])
 

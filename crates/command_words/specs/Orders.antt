@@ -16,7 +16,7 @@ use Rattle.command_words.specs.declared.places.Files.{Files}
 use Rattle.command_words.specs.declared.orders.Subject.{Subject}
 use Rattle.command_words.specs.declared.orders.Subject.TheVariants.{Board, Listed}
 use Rattle.command_words.specs.declared.orders.Order.{Order}
-use Rattle.command_words.specs.declared.orders.Order.TheVariants.{Joined, Check, Explain, ExplainPuzzle, Solve, Expand, Page, Count, Census, Total, Show, Draw, Symmetries, Tiles}
+use Rattle.command_words.specs.declared.orders.Order.TheVariants.{Joined, Check, Explain, ExplainPuzzle, Solve, Expand, Page, Count, Census, Total, Show, Draw, DrawAll, Symmetries, Tiles}
 use Rattle.command_words.specs.Commands.{whole_app}
 use Rattle.command_words.specs.Parts.{IsPartsText}
 use Rattle.match_symmetry.specs.declared.choices.Suggested.{Suggested}
@@ -57,20 +57,9 @@ IsFlagged id rows given = one_of id rows ≡ Some (bool_text given)
 abbrev pub HasFlag : Text → List Row → Type 0
 HasFlag id rows = (given : Bool) × IsFlagged id rows given
 
--- the matches name three files
+-- the matches name a puzzle and two files
 abbrev pub HasFiles : List Row → Type 0
 HasFiles rows = HasText (codes "PUZZLE") rows × HasText (codes "LIST") rows × HasText (codes "CERTIFICATE") rows
-
--- the files that the matches of a command name
-pub record NameFiles (rows : List Row) (files : Files) : Type 0 where
-  pub puzzle : first_of (codes "PUZZLE") rows ≡ Some (string_bytes files.puzzle)
-  pub list : first_of (codes "LIST") rows ≡ Some (string_bytes files.list)
-  pub certificate : first_of (codes "CERTIFICATE") rows ≡ Some (string_bytes files.certificate)
-
--- Neither the list nor the certificate is named as standard input is.
-pub record AreWritable (files : Files) : Type 0 where
-  pub list : string_bytes files.list ≢ input_name
-  pub certificate : string_bytes files.certificate ≢ input_name
 
 -- Where the document stands that the matches of a command have under an id: on standard input where its word is `-`, or in
 -- the file of this name.
@@ -78,6 +67,17 @@ abbrev pub IsPlace : Text → List Row → Place → Type 0
 IsPlace id rows Input = first_of id rows ≡ Some input_name
 IsPlace id rows (File name) =
     (first_of id rows ≡ Some (string_bytes name)) × (string_bytes name ≢ input_name)
+
+-- where the puzzle stands that the matches of `solve` name, and the files that they name
+pub record NameFiles (rows : List Row) (files : Files) : Type 0 where
+  pub puzzle : IsPlace (codes "PUZZLE") rows files.puzzle
+  pub list : first_of (codes "LIST") rows ≡ Some (string_bytes files.list)
+  pub certificate : first_of (codes "CERTIFICATE") rows ≡ Some (string_bytes files.certificate)
+
+-- Neither the list nor the certificate is named as standard input is.
+pub record AreWritable (files : Files) : Type 0 where
+  pub list : string_bytes files.list ≢ input_name
+  pub certificate : string_bytes files.certificate ≢ input_name
 
 -- all values that the matches of a command have under an id, in order
 abbrev pub values_of : Text → List Row → List Text
@@ -124,6 +124,16 @@ IsSubject rows (Listed places number) =
     IsPlace (codes "PUZZLE") rows places.puzzle × IsPlace (codes "LIST") rows places.list
     × (number_of (codes "N") rows ≡ Some number)
 
+-- a puzzle with a list, and the certificate that is named behind `--all`
+pub record ArePlacesToDraw (rows : List Row) (places : Places) : Type 0 where
+  pub puzzle : IsPlace (codes "PUZZLE") rows places.puzzle
+  pub list : IsPlace (codes "LIST") rows places.list
+  pub certificate : IsPlace (codes "all") rows places.certificate
+
+abbrev pub AreGivenToDraw : List Row → Given → Type 0
+AreGivenToDraw rows given.Joined = ⊥
+AreGivenToDraw rows (Apart places) = ArePlacesToDraw rows places
+
 -- how far a search counts by the matches of `count`
 abbrev pub IsExtent : List Row → Extent → Type 0
 IsExtent rows extents.All = (first_of (codes "most") rows ≡ None) × (first_of (codes "part") rows ≡ None)
@@ -154,7 +164,8 @@ IsOrderOf (Some (name, rows)) (Solve order) =
     (name ≡ codes "solve") × NameFiles rows order.files × AreWritable order.files
     × (number_of (codes "depth") rows ≡ Some order.depth) × (number_of (codes "fuel") rows ≡ Some order.fuel)
     × (number_of (codes "workers") rows ≡ Some order.workers) × AskFor rows order.symmetries
-    × IsFlagged (codes "progress") rows order.progress × IsFlagged (codes "hints") rows order.hints
+    × IsFlagged (codes "check") rows order.check × IsFlagged (codes "progress") rows order.progress
+    × IsFlagged (codes "hints") rows order.hints
 IsOrderOf (Some (name, rows)) (Expand order) =
     (name ≡ codes "expand") × IsGiven rows order.given × IsFlagged (codes "orbits") rows order.orbits
     × IsFlagged (codes "hints") rows order.hints
@@ -168,8 +179,11 @@ IsOrderOf (Some (name, rows)) (Census order) =
 IsOrderOf (Some (name, rows)) (Total parts) = (name ≡ codes "total") × AreNamedParts (values_of (codes "FILE") rows) parts
 IsOrderOf (Some (name, rows)) (Show subject) = (name ≡ codes "show") × IsSubject rows subject
 IsOrderOf (Some (name, rows)) (Draw order) =
-    (name ≡ codes "draw") × IsSubject rows order.subject × (number_of (codes "first") rows ≡ Some order.first)
-    × IsFlagged (codes "numbers") rows order.numbers
+    (name ≡ codes "draw") × IsSubject rows order.subject × (first_of (codes "all") rows ≡ None)
+    × (number_of (codes "first") rows ≡ Some order.first) × IsFlagged (codes "numbers") rows order.numbers
+IsOrderOf (Some (name, rows)) (DrawAll order) =
+    (name ≡ codes "draw") × AreGivenToDraw rows order.given × (number_of (codes "N") rows ≡ Some order.number)
+    × (number_of (codes "first") rows ≡ Some order.first) × IsFlagged (codes "numbers") rows order.numbers
 IsOrderOf (Some (name, rows)) (Symmetries puzzle) =
     (name ≡ codes "symmetries") × IsPlace (codes "PUZZLE") rows puzzle
 IsOrderOf (Some (name, rows)) (Tiles order) =

@@ -3,14 +3,15 @@
 
 mod commands;
 mod faults;
+mod helps;
 mod orders;
 mod places;
 mod readings;
 
 pub use faults::WordsFault;
 pub use orders::{
-    CensusOrder, CheckOrder, DrawOrder, ExpandOrder, Extent, Order, PageOrder, Parts, SolveOrder,
-    Subject, TilesOrder,
+    CensusOrder, CheckOrder, DrawAllOrder, DrawOrder, ExpandOrder, Extent, Order, PageOrder, Parts,
+    SolveOrder, Subject, TilesOrder,
 };
 pub use places::{Files, Given, PartPlaces, Place, Places, TwoPlaces};
 pub use readings::order;

@@ -80,7 +80,7 @@ pub struct CheckOrder {
     pub hints: bool,
 }
 
-/// A search for all arrangements of the puzzle in its file. It writes the files of their list and of a certificate.
+/// A search for all arrangements of a puzzle. It writes the files of their list and of a certificate.
 #[derive(Drop)]
 pub struct SolveOrder {
     pub files: Files,
@@ -89,6 +89,8 @@ pub struct SolveOrder {
     pub workers: Workers,
     /// Which symmetries the certificate names.
     pub symmetries: Suggested,
+    /// Whether what was found is checked before its files are put under their names.
+    pub check: bool,
     /// Whether it says meanwhile how far it is.
     pub progress: bool,
     /// Whether it says what has to be changed in a text that has a fault, even where no terminal shows it.
@@ -138,6 +140,19 @@ pub struct DrawOrder {
     pub numbers: bool,
 }
 
+/// A check of a puzzle, a list and a certificate, which prints a picture of all arrangements of the puzzle: of those
+/// that are listed, and then of their images under the certificate's symmetries.
+#[derive(Drop)]
+pub struct DrawAllOrder {
+    pub given: Given,
+    /// Which arrangement is the first that is drawn, in the order of an expansion.
+    pub number: ArrangementNumber,
+    /// How many arrangements a sheet has, from that one on; 0 for that one alone, large.
+    pub first: Drawn,
+    /// Whether each cell has the number of its tile.
+    pub numbers: bool,
+}
+
 /// A list of the tiles with this many sides and colours.
 #[derive(Drop)]
 pub struct TilesOrder {
@@ -176,6 +191,8 @@ pub enum Order {
     Show(Subject),
     /// Draw a puzzle, or listed arrangements, as a picture.
     Draw(DrawOrder),
+    /// Check documents, and draw arrangements that the list has or stands for, as a picture.
+    DrawAll(DrawAllOrder),
     /// Print symmetries of the puzzle at this place.
     Symmetries(Place),
     /// List tiles.

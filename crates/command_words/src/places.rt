@@ -4,14 +4,6 @@ ghost use Rattle.std.specs.Prelude.{◌≡◌, ◌↔◌, IsTrue, MatchOption};
 ghost use Rattle.command_words.specs.Places.{AreBothOnInput, AreTwoOnInput};
 ghost use Rattle.command_words.specs.declared.places.Place.TheVariants.{Input};
 
-/// Three files, by their names.
-#[derive(Drop)]
-pub struct Files {
-    pub puzzle: String,
-    pub list: String,
-    pub certificate: String,
-}
-
 /// Where a document is.
 #[derive(Drop)]
 pub enum Place {
@@ -28,6 +20,14 @@ impl Place {
     {
         matches!(self, Place::Input)
     }
+}
+
+/// Where a solve reads its puzzle, and the names of the two files that it writes.
+#[derive(Drop)]
+pub struct Files {
+    pub puzzle: Place,
+    pub list: String,
+    pub certificate: String,
 }
 
 /// Where the lines of counted parts are.

@@ -25,8 +25,8 @@ use crate::commands::{
 };
 use crate::faults::WordsFault;
 use crate::orders::{
-    CensusOrder, CheckOrder, DrawOrder, ExpandOrder, Extent, Order, PageOrder, Parts, SolveOrder,
-    Subject, TilesOrder,
+    CensusOrder, CheckOrder, DrawAllOrder, DrawOrder, ExpandOrder, Extent, Order, PageOrder, Parts,
+    SolveOrder, Subject, TilesOrder,
 };
 use crate::places::{Files, Given, PartPlaces, Place, Places, TwoPlaces};
 use clap::error::ErrorKind;
@@ -44,6 +44,10 @@ const READ_ALONE: &str = "- is standard input, and stands alone: name files, or 
 
 // The message for a list without a certificate.
 const NO_CERTIFICATE: &str = "a list stands with its certificate: PUZZLE LIST CERTIFICATE";
+
+// The message for a certificate by which no list is drawn.
+const ALL_OF_NO_LIST: &str =
+    "--all draws by a list with its certificate: PUZZLE LIST --all CERTIFICATE";
 
 // The message for a puzzle alone, where all three documents are wanted.
 const NO_LIST: &str =
@@ -92,11 +96,12 @@ fn flag(matches: &ArgMatches<'_>, id: &str) -> bool
     matches.get_flag(id)
 }
 
+// Where the puzzle of a solve is, and the names of its files.
 fn files(alloc: Global, matches: &ArgMatches<'_>) -> Result<Files, AllocError>
     requires { HasFiles (rows_of (found_of matches.now)) }
     ensures { IfOk result (NameFiles (rows_of (found_of matches.now))) }
 {
-    let puzzle = text(alloc, matches, "PUZZLE")?;
+    let puzzle = puzzle_place(alloc, matches)?;
     let list = text(alloc, matches, "LIST")?;
     let certificate = text(alloc, matches, "CERTIFICATE")?;
     Ok(Files {
@@ -289,6 +294,7 @@ fn solve(alloc: Global, matches: &ArgMatches<'_>) -> Result<Order, WordsFault>
     let depth = number(matches, "depth");
     let fuel = number(matches, "fuel");
     let workers = number(matches, "workers");
+    let check = flag(matches, "check");
     let progress = flag(matches, "progress");
     let hints = flag(matches, "hints");
     Ok(Order::Solve(SolveOrder {
@@ -297,6 +303,7 @@ fn solve(alloc: Global, matches: &ArgMatches<'_>) -> Result<Order, WordsFault>
         fuel,
         workers,
         symmetries,
+        check,
         progress,
         hints,
     }))
@@ -539,6 +546,9 @@ fn draw(alloc: Global, matches: &ArgMatches<'_>) -> Result<Order, WordsFault>
     ensures order { IfOk result (IsOrderOf (Some (codes "draw", rows_of (found_of matches.now)))) }
     ensures refused { IfErr result (IsMisfit (Some (codes "draw", rows_of (found_of matches.now)))) }
 {
+    if let Some(certificate) = place_if_named(alloc, matches, "all")? {
+        return draw_all(alloc, matches, certificate);
+    }
     let Some(subject) = read_subject(alloc, matches)? else {
         return Err(misfit(draw_command(alloc), "edgematch draw", READ_TWICE));
     };
@@ -548,6 +558,33 @@ fn draw(alloc: Global, matches: &ArgMatches<'_>) -> Result<Order, WordsFault>
         subject,
         first,
         numbers,
+    }))
+}
+
+// Draws of all arrangements, by the list and by this certificate.
+fn draw_all(
+    alloc: Global,
+    matches: &ArgMatches<'_>,
+    certificate: Place,
+) -> Result<Order, WordsFault>
+    requires draw { AreMatchesOf (codes "draw") (rows_of (found_of matches.now)) }
+    requires certificate { IsPlace (codes "all") (rows_of (found_of matches.now)) certificate }
+    ensures order { IfOk result (IsOrderOf (Some (codes "draw", rows_of (found_of matches.now)))) }
+    ensures refused { IfErr result (IsMisfit (Some (codes "draw", rows_of (found_of matches.now)))) }
+{
+    let puzzle = puzzle_place(alloc, matches)?;
+    let list = place_if_named(alloc, matches, "LIST")?;
+    let Some(list) = list else {
+        return Err(misfit(draw_command(alloc), "edgematch draw", ALL_OF_NO_LIST));
+    };
+    let Some(places) = Places::new(puzzle, list, certificate) else {
+        return Err(misfit(draw_command(alloc), "edgematch draw", READ_TWICE));
+    };
+    Ok(Order::DrawAll(DrawAllOrder {
+        given: Given::Apart(places),
+        number: number(matches, "N"),
+        first: number(matches, "first"),
+        numbers: flag(matches, "numbers"),
     }))
 }
 
@@ -581,6 +618,7 @@ fn tiles(matches: &ArgMatches<'_>) -> Order
 /// - only some of three documents are named
 /// - `count` has three documents together with options of a search
 /// - `solve` asks for symmetries by a word other than the two
+/// - `draw` has a certificate and no list
 /// - two documents are to be read from standard input
 pub fn order(alloc: Global, words: &[String]) -> Result<Order, WordsFault>
     ensures order { IfOk result (IsOrder (map string_bytes words.now)) }

@@ -4,7 +4,7 @@ pub(crate) const BEFORE_TITLE: &[u8] = br##"<!DOCTYPE html>
 <html lang="en">
 <head>
 <meta charset="utf-8">
-<meta http-equiv="Content-Security-Policy" content="default-src 'none'; script-src 'sha256-nwzJ7UIChuaO4lXEfuZEQjvuoa4d/d+Av+h6n/ARpjk=' 'sha256-oB5imTH3fULdqh777/IVNrwaiCPZo4N2WxW95ZvLOi8=' 'sha256-rIl9sVfe5WByvoRvQtARBtcicj7vS5B0y7pQMbHqGYk='; style-src 'sha256-8OEhcHeu7zEUYchi3jtxdaz1jbc10HN05tBaZ4oMFS4='; worker-src blob:; child-src blob:; base-uri 'none'; form-action 'none'">
+<meta http-equiv="Content-Security-Policy" content="default-src 'none'; script-src 'sha256-nwzJ7UIChuaO4lXEfuZEQjvuoa4d/d+Av+h6n/ARpjk=' 'sha256-oB5imTH3fULdqh777/IVNrwaiCPZo4N2WxW95ZvLOi8=' 'sha256-rIl9sVfe5WByvoRvQtARBtcicj7vS5B0y7pQMbHqGYk='; style-src 'sha256-wMYy2TeLjTuc/72rgnB0i8wHRr+HD9O0AO8yz3aBXYw='; worker-src blob:; child-src blob:; base-uri 'none'; form-action 'none'">
 <meta name="viewport" content="width=device-width, initial-scale=1">
 <meta name="referrer" content="no-referrer">
 <title>"##;
@@ -66,6 +66,7 @@ thead th, .facts th { color: var(--soft); }
 figcaption { margin-top: .25rem; text-align: center; font-size: .85rem; font-variant-numeric: tabular-nums; }
 button, input { font: inherit; }
 button {
+  white-space: nowrap;
   padding: .5rem 1.1rem; border: 1px solid var(--accent); border-radius: .45rem;
   background: transparent; color: var(--accent); cursor: pointer;
 }

@@ -1,4 +1,4 @@
-//! An order over files whose texts are known.
+//! Orders over files whose texts are known.
 
 ghost use Rattle.std.specs.Prelude.{◌≡◌, IfOk};
 ghost use Rattle.std.specs.String.{string_bytes};
@@ -10,9 +10,9 @@ use crate::outcomes::with_memory;
 use byte_streams::Fake;
 use command_orders::{Exit, HintedFault, Streams, run_order};
 use command_runs::RunFault;
-use command_words::{CheckOrder, Files, Given, Order, Place, Places};
-use match_limits::{Forks, Workers};
-use solver::SolveFault;
+use command_words::{CheckOrder, Files, Given, Order, Place, Places, SolveOrder};
+use match_limits::{Depth, Forks, Fuel, Workers};
+use solver::{SolveFault, Suggested};
 use std::alloc::{AllocError, Global};
 use std::random::RandomSource;
 use std::sync::Wait;
@@ -23,13 +23,21 @@ use std::time::Clock;
 // Both tiles fit the first cell, so that it isn't dead.
 const DEAD_TWINS: &[u8] = b"certificate 1\nsymmetries 0\nlemmas 1\nlemma 0 prefix tree d 0\nend\n";
 
-// The files of these names.
-fn files_of(alloc: Global, puzzle: &str, list: &str, certificate: &str) -> Result<Files, AllocError>
-    ensures puzzle { IfOk result (λ files. string_bytes files.puzzle ≡ puzzle.now) }
-    ensures list { IfOk result (λ files. string_bytes files.list ≡ list.now) }
-    ensures certificate { IfOk result (λ files. string_bytes files.certificate ≡ certificate.now) }
+// The names of the files of three documents.
+#[derive(Drop)]
+struct Names {
+    puzzle: String,
+    list: String,
+    certificate: String,
+}
+
+// These names.
+fn names_of(alloc: Global, puzzle: &str, list: &str, certificate: &str) -> Result<Names, AllocError>
+    ensures puzzle { IfOk result (λ names. string_bytes names.puzzle ≡ puzzle.now) }
+    ensures list { IfOk result (λ names. string_bytes names.list ≡ list.now) }
+    ensures certificate { IfOk result (λ names. string_bytes names.certificate ≡ certificate.now) }
 {
-    Ok(Files {
+    Ok(Names {
         puzzle: String::from_str(alloc, puzzle)?,
         list: String::from_str(alloc, list)?,
         certificate: String::from_str(alloc, certificate)?,
@@ -50,11 +58,11 @@ fn exit_of<R: Threads + Wait + Sync + RandomSource + Clock + Eprint>(
     })) }
 {
     let mut system = *held;
-    let files = files_of(held.alloc, "p", "l", "c")?;
+    let names = names_of(held.alloc, "p", "l", "c")?;
     let places = Places {
-        puzzle: Place::File(files.puzzle),
-        list: Place::File(files.list),
-        certificate: Place::File(files.certificate),
+        puzzle: Place::File(names.puzzle),
+        list: Place::File(names.list),
+        certificate: Place::File(names.certificate),
     };
     let order = Order::Check(CheckOrder {
         given: Given::Apart(places),
@@ -118,7 +126,86 @@ fn a_check_that_is_done_is_of_a_complete_list(rt: HostRuntime) -> Result<(), Fai
     Ok(())
 }
 
-const CODES: [(RunFault, u8); 4] = [
+// A solve in one lemma of the puzzle on standard input.
+fn solve_order(alloc: Global, check: bool) -> Result<Order, AllocError> {
+    let files = Files {
+        puzzle: Place::Input,
+        list: String::from_str(alloc, "l")?,
+        certificate: String::from_str(alloc, "c")?,
+    };
+    Ok(Order::Solve(SolveOrder {
+        files,
+        depth: Depth::new(0),
+        fuel: Fuel::new(10),
+        workers: Workers::new(1),
+        symmetries: Suggested::All,
+        check,
+        progress: false,
+        hints: false,
+    }))
+}
+
+// How an order ends over files that hold nothing.
+fn ended<R: Threads + Wait + Sync + RandomSource + Clock + Eprint>(
+    rt: &R,
+    alloc: Global,
+    order: &Order,
+    input: &mut Fake<'_>,
+    output: &mut Fake<'_>,
+) -> Result<Exit, HintedFault> {
+    let mut system = HeldFiles {
+        alloc,
+        puzzle: b"",
+        list: b"",
+        certificate: b"",
+    };
+    let mut errors = Fake::new(alloc, b"", 5, usize::MAX);
+    let mut streams = Streams {
+        input,
+        output,
+        errors: &mut errors,
+        terminal: false,
+        typed: false,
+    };
+    run_order(rt, alloc, order, &mut system, &mut streams)
+}
+
+// Whether a solve of the twins on standard input is done, and reports this.
+fn reports<R: Threads + Wait + Sync + RandomSource + Clock + Eprint>(
+    rt: &R,
+    alloc: Global,
+    check: bool,
+    report: &[u8],
+) -> Result<bool, AllocError> {
+    let order = solve_order(alloc, check)?;
+    let mut input = Fake::new(alloc, TWINS.puzzle, 7, usize::MAX);
+    let mut output = Fake::new(alloc, b"", 5, usize::MAX);
+    let exit = ended(rt, alloc, &order, &mut input, &mut output);
+    Ok(with_memory(without_hint(exit))? == Ok(Exit::Done) && output.written() == report)
+}
+
+// Both arrangements of the twins are found, and the check has the last line.
+const REPORTS: [(bool, &[u8]); 2] = [
+    (
+        false,
+        b"found 2\nlemmas 1\nworker 0 took 0\n0 0.0 0101\n1 1.0 0101\n",
+    ),
+    (
+        true,
+        b"found 2\nlemmas 1\nworker 0 took 0\n0 0.0 0101\n1 1.0 0101\ncomplete 2\n",
+    ),
+];
+
+#[test]
+fn a_solve_reads_its_puzzle_from_standard_input(rt: HostRuntime) -> Result<(), Fail> {
+    for (check, report) in REPORTS.iter() {
+        assert!(rt; reports(&rt, rt.alloc(), *check, report)?);
+    }
+    Ok(())
+}
+
+const CODES: [(RunFault, u8); 5] = [
+    (RunFault::Refused, 1),
     (RunFault::Tiles, 2),
     (RunFault::Write, 2),
     (RunFault::Replaced, 2),

@@ -1,15 +1,14 @@
 use Rattle.std.proofs.Common.{◌≡◌, IfErr, refl, subst, sym}
-use Rattle.match_limits.specs.First.{IsFirst}
-use Rattle.cert_check.specs.Answer.{IsAnswer, Occurs, fault_rank}
+use Rattle.cert_check.specs.Answer.{IsAnswer}
 use Rattle.cert_check.specs.declared.faults.Answer.TheVariants.{Complete, Refused}
 use Rattle.cert_check.specs.declared.faults.Fault.{Fault}
 use Rattle.command_runs.specs.Printing.{Prints}
 use Rattle.command_runs.proofs.printing_runs.question_text.Goals.{In-Err}
 use Rattle.command_runs.proofs.printing_runs.question_text.Goals as goal
 
--- the fault that was found before the trees is the first
+-- the fault for which the list is refused
 first : (c : In-Err) → IsAnswer c.args.question.now (Refused c.in-Err.fault)
-first c = subst (λ r. IfErr r (IsFirst fault_rank (Occurs c.args.question.now))) c.in-Err.is c.in_ok-prepared.ensures.fault
+first c = subst (λ r. IfErr r (λ fault. IsAnswer c.args.question.now (Refused fault))) c.in-Err.is c.in_ok-prepared.ensures.refused
 
 pub refused_text-requires : goal.refused_text-requires
 refused_text-requires c = first (goal.at.refused_text-requires c).In-Err

@@ -1,6 +1,6 @@
 use Rattle.std.proofs.Common.{arith, codes, sym}
 use Rattle.clap.specs.Words.{found_of, rows_of}
-use Rattle.command_words.proofs.CommandLemmas.{solve_depth, solve_files, solve_fuel, solve_hints, solve_progress, solve_workers}
+use Rattle.command_words.proofs.CommandLemmas.{solve_check, solve_depth, solve_files, solve_fuel, solve_hints, solve_progress, solve_workers}
 use Rattle.command_words.proofs.MisfitLemmas.{misfits, not_suggested, not_writable, true_is_false}
 use Rattle.command_words.proofs.readings.solve.Goals as goal
 
@@ -15,6 +15,9 @@ number-fuel-requires c = (omega arith, solve_fuel (rows_of (found_of c.args.matc
 
 pub number-workers-requires : goal.number-workers-requires
 number-workers-requires c = (omega arith, solve_workers (rows_of (found_of c.args.matches.now)) c.requires)
+
+pub flag-check-requires : goal.flag-check-requires
+flag-check-requires c = solve_check (rows_of (found_of c.args.matches.now)) c.requires
 
 pub flag-progress-requires : goal.flag-progress-requires
 flag-progress-requires c = solve_progress (rows_of (found_of c.args.matches.now)) c.requires
