@@ -5,10 +5,10 @@ _edgematch() {
   local word=${COMP_WORDS[COMP_CWORD]} before=${COMP_WORDS[COMP_CWORD - 1]} command=${COMP_WORDS[1]} words
   COMPREPLY=()
   if [ "$COMP_CWORD" -eq 1 ]; then
-    words="check explain solve expand page count total show draw symmetries tiles help --help --version"
+    words="check explain find solve expand page count total show draw symmetries tiles help --help --version"
   else
     case $before in
-      --all | --depth | --first | --forks | --fuel | --most | --part | --title | --workers) return ;;
+      --all | --depth | --first | --forks | --fuel | --most | --part | --seed | --title | --workers) return ;;
       --symmetries)
         mapfile -t COMPREPLY < <(compgen -W "all board" -- "$word")
         return
@@ -17,6 +17,7 @@ _edgematch() {
     case $command in
       check) words="--workers --forks --progress --hints --help" ;;
       explain) words="--help" ;;
+      find) words="--first --orbits --symmetries --seed --workers --progress --help" ;;
       solve) words="--depth --fuel --workers --symmetries --check --progress --hints --help" ;;
       expand) words="--orbits --hints --help" ;;
       page) words="--title --first --hints --help" ;;
@@ -26,11 +27,11 @@ _edgematch() {
       draw) words="--first --all --numbers --help" ;;
       symmetries) words="--help" ;;
       tiles) words="--lines --help" ;;
-      help) words="check explain solve expand page count total show draw symmetries tiles help" ;;
+      help) words="check explain find solve expand page count total show draw symmetries tiles help" ;;
     esac
   fi
   case $command in
-    check | explain | solve | expand | page | count | total | show | draw | symmetries)
+    check | explain | find | solve | expand | page | count | total | show | draw | symmetries)
       if [ "$COMP_CWORD" -gt 1 ] && [ "${word:0:1}" != - ]; then
         mapfile -t COMPREPLY < <(compgen -f -- "$word")
         return

@@ -73,6 +73,7 @@ class Puzzle:
         """The commands that only read."""
         yield ["expand", *self.files]
         yield ["page", *self.files]
+        yield ["find", self.files[0], "--first", "2"]
         for crew in CREWS:
             yield ["check", *self.files, *crew]
         yield ["check", *self.files, "--workers", "2", "--forks", "2"]

@@ -124,7 +124,7 @@ def manual(program, top, commands):
     yield from rows([(f"\\fB{it}\\fR".replace("-", "\\-"), said) for it, said in top.rows["Options:"]])
     yield from paragraphs(notes["options"])
     yield ".SH EXIT STATUS"
-    yield from rows([(f"\\fB{it}\\fR", said) for it, said in top.rows["Exit status:"]], {"solve", "count"})
+    yield from rows([(f"\\fB{it}\\fR", said) for it, said in top.rows["Exit status:"]], {"find", "solve", "count"})
     yield from (".SH FILES", *paragraphs(notes["files"])[1:], ".SH EXAMPLES")
     for about, of in [("Checks three texts that come joined", top), *((of.about, of) for of in commands.values())]:
         yield from (*([".PP"] if of is not top else []), *roff(about + ":"), ".PP", ".nf", ".RS 4")

@@ -180,7 +180,8 @@ def commands():
         for words in ("", "explain", "count", "expand --orbits"):
             found.append(Command(f"program: {example}, joined {words}".rstrip(), [program, *words.split()], joined))
         found.append(Command(f"program: {example}, show -", [program, "show", "-"], contents(files[0])))
-        for words in ("count", "count --workers 3", "count --most 3", "explain", "symmetries"):
+        for words in ("count", "count --workers 3", "count --most 3", "find --first 3", "find --orbits --first 3", "explain",
+                      "symmetries"):
             command, *options = words.split()
             found.append(Command(f"program: {example}, {words} PUZZLE", [program, command, files[0], *options]))
         for words in ("check", "check --workers 3 --forks 2", "expand", "page"):

@@ -511,7 +511,7 @@ def an_input_of_another(trial):
     for name, text in (("puzzle", SMALL), ("list", SMALL_LIST), ("certificate", SMALL_CERTIFICATE)):
         trial.put(name, text)
     for words in ("check puzzle list certificate", "solve puzzle made made_too", "expand puzzle list certificate",
-                  "page puzzle list certificate", "explain puzzle list certificate", "count puzzle", "count puzzle list certificate", "show puzzle",
+                  "page puzzle list certificate", "explain puzzle list certificate", "count puzzle", "count puzzle list certificate", "find puzzle", "show puzzle",
                   "show puzzle list", "draw puzzle", "draw puzzle list", "symmetries puzzle", "explain puzzle", "tiles 3 2"):
         script = f'printf "a\\nb\\n" | while read it; do "$0" {words} > /dev/null; echo $it; done'
         run = subprocess.run(["bash", "-c", script, trial.program], stdin=subprocess.DEVNULL, capture_output=True,
@@ -546,7 +546,8 @@ def workers(trial):
     shutil.copy(LONG, trial.path("puzzle"))
     trial.put("alike", ALIKE)
     trial.solve("alike", "listed", "certified", options=("--workers", "4"))
-    for words in (("count", "puzzle"), ("solve", "puzzle", "list", "certificate"), ("check", "alike", "listed", "certified")):
+    for words in (("count", "puzzle"), ("find", "puzzle", "--first", "1000000"), ("solve", "puzzle", "list", "certificate"),
+                  ("check", "alike", "listed", "certified")):
         run = subprocess.Popen([trial.program, *words, "--workers", "4"], stdout=subprocess.DEVNULL, stderr=subprocess.DEVNULL,
                                cwd=trial.folder)
         ends, most = time.monotonic() + LONGEST, 0
@@ -643,7 +644,7 @@ def what_is_awaited_on_a_terminal(trial):
     for words, documents, given in (
             ("", of_three, joined), ("explain", of_three, joined), ("count", of_three, joined),
             ("expand --orbits", of_three, joined), ("page", of_three, joined),
-            ("explain -", b"a puzzle", SMALL), ("count -", b"a puzzle", SMALL),
+            ("explain -", b"a puzzle", SMALL), ("count -", b"a puzzle", SMALL), ("find -", b"a puzzle", SMALL),
             ("symmetries -", b"a puzzle", SMALL), ("show -", b"a puzzle", SMALL),
             ("show - list", b"a puzzle", SMALL), ("draw puzzle -", b"a list", SMALL_LIST),
             ("count puzzle list -", b"a certificate", SMALL_CERTIFICATE),
@@ -711,6 +712,7 @@ def reasons_on_a_terminal(trial):
             ("check puzzle folder list", b"cannot read list\n", is_folder),
             ("count puzzle list nothing", b"cannot read certificate\n", no_file),
             ("count nothing", b"cannot read puzzle\n", no_file),
+            ("find folder", b"cannot read puzzle\n", is_folder),
             ("show folder", b"cannot read puzzle\n", is_folder),
             ("draw puzzle nothing", b"cannot read list\n", no_file),
             ("solve nothing list made", b"cannot read puzzle\n", no_file),
@@ -765,6 +767,7 @@ def hints_on_a_terminal(trial):
             ("explain none list certificate", True),
             ("explain none", True),
             ("count none", True),
+            ("find none", True),
             ("show none", True),
             ("draw none", True),
             ("symmetries none", True),

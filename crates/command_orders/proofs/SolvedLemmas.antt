@@ -82,10 +82,10 @@ module _ (plan : SolvePlan) (from : Origin (List ℕ)) (to : Target Products) (P
   pub solve_stopped : (list certificate report : Writing) (Undone : Type 0) → Undone
       → ((made : Products) → Undone × (report.Untouched ⊎ (FrontOf report made.report ⊎ Takes report made.report)) → to.Stopped made) → (Undone × report.Untouched → to.Untouched)
       → (fault : RunFault)
-      → Runs from (SolveGivesOf plan) (SolveFailsOf plan.check) (three_sinks list certificate report) (Err fault)
+      → Runs from (SolveGivesOf plan) (SolveFailsOf plan) (three_sinks list certificate report) (Err fault)
       → SolveOf plan from to Put (Err fault)
   solve_stopped list certificate report Undone undone stopped untouched fault run =
-      inl (stopped_over from from (SolveGivesOf plan) (ThenDone (SolveGivesOf plan)) (SolveFailsOf plan.check)
+      inl (stopped_over from from (SolveGivesOf plan) (ThenDone (SolveGivesOf plan)) (SolveFailsOf plan)
       (three_sinks list certificate report) to (λ t gave. gave) (λ f stops. stops) (λ t m e g. (Done, (g, refl)))
       (λ m stops. stopped m (undone, reports_some list certificate report m stops)) (λ u. untouched (undone, u.2)) fault run)
 
@@ -97,7 +97,7 @@ module _ (plan : SolvePlan) (from : Origin (List ℕ)) (to : Target Products) (P
   -- what it comes to by what else is said of where its text comes from
   pub solve_over : (from' : Origin (List ℕ)) → ((t : List ℕ) → from.Gave t → from'.Gave t) → ((f : InputFault) → from.Stopped f → from'.Stopped f)
       → (result : Result Exit RunFault) → SolveOf plan from to Put result → SolveOf plan from' to Put result
-  solve_over from' gave stopped result (inl run) = inl (over_origin from from' (ThenDone (SolveGivesOf plan)) (SolveFailsOf plan.check) to gave stopped result run)
+  solve_over from' gave stopped result (inl run) = inl (over_origin from from' (ThenDone (SolveGivesOf plan)) (SolveFailsOf plan) to gave stopped result run)
   solve_over from' gave stopped result (inr (inl unbegun)) = inr (inl unbegun)
   solve_over from' gave stopped result (inr (inr other)) = inr (inr (other.0, other.1, other.2, gave other.1 other.3, other.4, other.5))
 

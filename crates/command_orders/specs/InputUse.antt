@@ -1,7 +1,7 @@
 -- Which orders read standard input, and what the others leave of it.
 use Rattle.std.specs.Prelude.{◌≡◌, ◌||◌, Bool, true, false}
 use Rattle.command_words.specs.declared.orders.Order.{Order}
-use Rattle.command_words.specs.declared.orders.Order.TheVariants.{Joined, Check, Explain, ExplainPuzzle, Solve, Expand, Count, Page, Census, Total, Show, Draw, DrawAll, Symmetries, Tiles}
+use Rattle.command_words.specs.declared.orders.Order.TheVariants.{Joined, Check, Explain, ExplainPuzzle, Find, Solve, Expand, Count, Page, Census, Total, Show, Draw, DrawAll, Symmetries, Tiles}
 use Rattle.command_words.specs.declared.orders.Subject.{Subject}
 use Rattle.command_words.specs.declared.orders.Subject.TheVariants.{Board, Listed}
 use Rattle.command_words.specs.declared.places.Given.{Given}
@@ -47,6 +47,7 @@ reads_input (Expand order) = is_given_on_input order.given
 reads_input (Count documents) = is_given_on_input documents
 reads_input (Page order) = is_given_on_input order.given
 reads_input (Census order) = is_on_input order.puzzle
+reads_input (Find order) = is_on_input order.puzzle
 reads_input (Total places) = are_parts_on_input places
 reads_input (Solve order) = is_on_input order.files.puzzle
 reads_input (Show subject) = is_subject_on_input subject

@@ -1,5 +1,5 @@
 -- What an order comes to.
-use Rattle.std.specs.Prelude.{◌≡◌, ◌⊎◌, ℕ, Bool, true, false, List, Result, Err}
+use Rattle.std.specs.Prelude.{◌≡◌, ◌⊎◌, ℕ, Bool, true, false, List, Option, Result, Err}
 use Rattle.std.specs.String.{string_bytes}
 use Rattle.command_words.specs.declared.orders.Extent.{Extent}
 use Rattle.command_words.specs.declared.orders.Subject.{Subject}
@@ -8,7 +8,7 @@ use Rattle.command_words.specs.declared.orders.Order.{Order}
 use Rattle.command_words.specs.declared.orders.DrawAllOrder.{DrawAllOrder}
 use Rattle.command_words.specs.declared.orders.PageOrder.{PageOrder}
 use Rattle.command_words.specs.declared.orders.SolveOrder.{SolveOrder}
-use Rattle.command_words.specs.declared.orders.Order.TheVariants.{Joined, Check, Explain, ExplainPuzzle, Solve, Expand, Count, Page, Census, Total, Show, Draw, DrawAll, Symmetries, Tiles}
+use Rattle.command_words.specs.declared.orders.Order.TheVariants.{Joined, Check, Explain, ExplainPuzzle, Find, Solve, Expand, Count, Page, Census, Total, Show, Draw, DrawAll, Symmetries, Tiles}
 use Rattle.byte_streams.specs.Documents.{Texts}
 use Rattle.byte_streams.specs.Moves.{Writing, reading_of}
 use Rattle.byte_streams.specs.Origins.{Origin, joined_source, no_source}
@@ -22,6 +22,7 @@ use Rattle.command_runs.specs.Census.{CensusFails, CensusGives}
 use Rattle.command_runs.specs.Checking.{CheckFails, CheckGives, SpellCompleteList}
 use Rattle.command_runs.specs.Describing.{Describes, DescribeFails}
 use Rattle.command_orders.specs.Exits.{status_exit}
+use Rattle.command_runs.specs.Finding.{FindFails, FindGives}
 use Rattle.command_runs.specs.Listed.{DrawFails, DrawsListed}
 use Rattle.command_runs.specs.Pages.{PageGives}
 use Rattle.command_runs.specs.Pictures.{DrawsPicture, PictureFails}
@@ -49,6 +50,7 @@ use Rattle.command_runs.specs.declared.printing_runs.Printing.TheVariants as pri
 use Rattle.command_orders.specs.declared.exits.Exit.{Exit}
 use Rattle.command_orders.specs.declared.exits.Exit.TheVariants as exits
 use Rattle.match_report.specs.declared.statuses.Status.{Status}
+use Rattle.match_symmetry.specs.declared.choices.Suggested.{Suggested}
 use Rattle.command_runs.specs.declared.faults.RunFault.{RunFault}
 use Rattle.command_runs.specs.declared.faults.RunFault.TheVariants as runs
 
@@ -104,6 +106,11 @@ abbrev pub CensusOf : Extent → Origin (List ℕ) → Writing → Result Exit R
 CensusOf extent from output result =
     Runs from (ThenDone (CensusGives extent)) (CensusFails extent) (one_sink output) result
 
+-- What a search for some arrangements of a puzzle comes to.
+abbrev pub FindOf : (first : ℕ) (orbits : Option Suggested) → Origin (List ℕ) → Writing → Result Exit RunFault → Type 0
+FindOf first orbits from output result =
+    Runs from (ThenDone (FindGives first orbits)) (FindFails orbits) (one_sink output) result
+
 -- What a sum of counted parts comes to.
 abbrev pub TotalOf : Origin (List ℕ) → Writing → Result Exit RunFault → Type 0
 TotalOf from output result = Runs from (ThenDone TotalGives) TotalFails (one_sink output) result
@@ -132,7 +139,7 @@ solve_plan_of order = record {
 abbrev pub SolveOf : SolvePlan → Origin (List ℕ) → Target Products → (PutsAll : Products → Type 0)
     → Result Exit RunFault → Type 0
 SolveOf plan from to PutsAll result =
-    Runs from (ThenDone (SolveGivesOf plan)) (SolveFailsOf plan.check) to result
+    Runs from (ThenDone (SolveGivesOf plan)) (SolveFailsOf plan) to result
     ⊎ (((result ≡ Err runs.Write) × to.Untouched)
     ⊎ ((result ≡ Err runs.Replaced)
     × (text : List ℕ) × (made : Products) × from.Gave text × SolveGivesOf plan text made tt × PutsAll made))
@@ -197,6 +204,9 @@ module _ {S R W I : Type 0} (system : FileMembers S R W) (source : SourceMembers
       RunOf (Census order) result =
           (new ≡ old)
           × CensusOf order.extent (one_place system source old input given later order.puzzle) output result
+      RunOf (Find order) result =
+          (new ≡ old)
+          × FindOf order.first order.orbits (one_place system source old input given later order.puzzle) output result
       RunOf (Total places) result =
           (new ≡ old) × TotalOf (given_parts system source input old given later places) output result
       RunOf (Solve order) result =

@@ -20,7 +20,7 @@ use crate::made_files::{make_files, not_put, replaced};
 use crate::part_files::PartFiles;
 use crate::place_runs::{
     AnswerPlan, DescriptionOrder, DocumentsOrder, DocumentsPlan, Drawing, DrawingOrder, count,
-    describe, draw, publish,
+    describe, draw, find, publish,
 };
 use crate::progress::SolveProgress;
 use crate::streams::Streams;
@@ -129,6 +129,7 @@ pub fn run_order<
             )
         }
         Order::Census(order) => count(rt, alloc, order, system, streams.input, streams.output),
+        Order::Find(order) => find(rt, alloc, order, system, streams.input, streams.output),
         Order::Total(parts) => add_up(alloc, parts, system, streams.input, streams.output),
         Order::Show(subject) => show(alloc, subject, system, streams.input, streams.output),
         Order::Draw(order) => picture(alloc, order, system, streams.input, streams.output),

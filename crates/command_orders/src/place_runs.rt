@@ -6,7 +6,7 @@ ghost use Rattle.byte_streams.specs.Origins.{one_source, two_sources};
 ghost use Rattle.byte_streams.specs.declared.faults.Document.TheVariants as documents;
 ghost use Rattle.command_orders.specs.InputUse.{LeavesInput, is_given_on_input, is_on_input};
 ghost use Rattle.command_orders.specs.InputUse.{is_one_of_two_on_input};
-ghost use Rattle.command_orders.specs.OrderRuns.{CensusOf, CheckOf, DescriptionOf, DocumentsOf, DrawingOf};
+ghost use Rattle.command_orders.specs.OrderRuns.{CensusOf, CheckOf, DescriptionOf, DocumentsOf, DrawingOf, FindOf};
 ghost use Rattle.command_orders.specs.OrderRuns.{PageOf, PrintingOf};
 ghost use Rattle.command_orders.specs.PlaceOrigins.{given_documents, one_place, two_places};
 ghost use Rattle.command_runs.specs.Runs.{unhinted};
@@ -14,14 +14,14 @@ ghost use Rattle.command_runs.specs.Runs.{unhinted};
 use crate::exits::Exit;
 use crate::files::open;
 use crate::given_inputs::{GivenInputs, open_given};
-use crate::progress::{CensusProgress, CheckProgress};
+use crate::progress::{CensusProgress, CheckProgress, FindProgress};
 use byte_streams::{Document, FileSystem, Inputs, OneSink, OwnedDocuments, Sink, Source};
 use command_runs::{
-    CensusPlan, CheckPlan, Description, HintedFault, PagePlan, PicturePlan, PrintingPlan, Watched,
-    run_census, run_check_watched, run_description, run_listed, run_page, run_picture,
-    run_printing,
+    CensusPlan, CheckPlan, Description, FindPlan, HintedFault, PagePlan, PicturePlan, PrintingPlan,
+    Watched, run_census, run_check_watched, run_description, run_find, run_listed, run_page,
+    run_picture, run_printing,
 };
-use command_words::{CensusOrder, Given, Place, TwoPlaces};
+use command_words::{CensusOrder, FindOrder, Given, Place, TwoPlaces};
 use match_limits::ArrangementNumber;
 use match_report::Status;
 use std::alloc::Global;
@@ -125,6 +125,57 @@ fn count_from<P: Source, W: Sink, R: Threads + Sync + Clock + Eprint>(
         watch: &CensusProgress::new(rt, order.progress),
     };
     run_census(rt, alloc, puzzle, &plan, output)?;
+    Ok(Exit::Done)
+}
+
+// Finds some arrangements of the puzzle.
+pub(crate) fn find<
+    S: FileSystem,
+    I: Source,
+    W: Sink,
+    R: Threads + Sync + RandomSource + Clock + Eprint,
+>(
+    rt: &R,
+    alloc: Global,
+    order: &FindOrder,
+    system: &S,
+    input: &mut I,
+    output: &mut W,
+) -> Result<Exit, HintedFault>
+    ensures run { FindOf order.now.first order.now.orbits
+        (one_place S.FileSystem S.Reader.Source system.now I.Source input.old input.new order.now.puzzle)
+        (writing_of W.Sink output.old output.new) (unhinted result) }
+    ensures unread { LeavesInput (is_on_input order.now.puzzle) input.old input.new }
+{
+    match &order.puzzle {
+        Place::File(file) => {
+            let mut puzzle = open(alloc, system, file, Document::Puzzle)?;
+            find_from(rt, alloc, order, &mut puzzle, output)
+        }
+        Place::Input => find_from(rt, alloc, order, input, output),
+    }
+}
+
+// Finds some arrangements of the puzzle that this source has.
+fn find_from<P: Source, W: Sink, R: Threads + Sync + RandomSource + Clock + Eprint>(
+    rt: &R,
+    alloc: Global,
+    order: &FindOrder,
+    puzzle: &mut P,
+    output: &mut W,
+) -> Result<Exit, HintedFault>
+    ensures { FindOf order.now.first order.now.orbits
+        (one_source documents.Puzzle (reading_of P.Source puzzle.old puzzle.new))
+        (writing_of W.Sink output.old output.new) (unhinted result) }
+{
+    let plan = FindPlan {
+        first: order.first,
+        orbits: order.orbits,
+        seed: order.seed,
+        workers: order.workers,
+        watch: &FindProgress::new(rt, order.progress),
+    };
+    run_find(rt, alloc, puzzle, &plan, output)?;
     Ok(Exit::Done)
 }
 

@@ -6,6 +6,7 @@ ghost use Rattle.command_runs.specs.Runs.{unhinted};
 use cert_check::Gate;
 use command_runs::{CheckSize, CheckWatch, HintedFault, RunFault, SolveWatch};
 use count_search::CensusWatch;
+use find_search::FindWatch;
 use match_limits::MOST_BYTES;
 use solver::{SolveFault, Watch};
 use std::alloc::Global;
@@ -264,6 +265,52 @@ impl<R: Clock + Eprint> SolveWatch for SolveProgress<'_, R> {
         if list > MOST_BYTES as usize || certificate > MOST_BYTES as usize {
             let _ = eprintln!(self.turns.rt; "solve: that is more than check reads");
         }
+    }
+}
+
+/// Says how far a search for some arrangements is: how many passes its workers have begun, and the most arrangements
+/// that one of them has found.
+#[derive(Drop)]
+pub struct FindProgress<'a, R: Clock + Eprint> {
+    turns: Turns<'a, R>,
+    passes: AtomicU64,
+    arrangements: AtomicU64,
+}
+
+impl<'a, R: Clock + Eprint> FindProgress<'a, R> {
+    /// Says how far it is if `asked`, otherwise nothing.
+    pub fn new(rt: &'a R, asked: bool) -> FindProgress<'a, R> {
+        FindProgress {
+            turns: Turns::new(rt, asked),
+            passes: AtomicU64::new(0),
+            arrangements: AtomicU64::new(0),
+        }
+    }
+
+    // Says how far it is, if it is the caller's turn.
+    fn tell(&self) {
+        if let Some(seconds) = self.turns.take() {
+            let passes = self.passes.load(Ordering::Relaxed);
+            let arrangements = self.arrangements.load(Ordering::Relaxed);
+            let _ = eprintln!(self.turns.rt;
+                "find: {seconds} s, {passes} passes, {arrangements} arrangements"
+            );
+        }
+    }
+}
+
+impl<R: Clock + Eprint> FindWatch for FindProgress<'_, R> {
+    fn begins(&self, _fuel: Option<u64>) {
+        self.passes.fetch_add(1, Ordering::Relaxed);
+        self.tell();
+    }
+
+    fn found(&self, arrangements: usize) {
+        let found = arrangements as u64;
+        if found > self.arrangements.load(Ordering::Relaxed) {
+            self.arrangements.store(found, Ordering::Relaxed);
+        }
+        self.tell();
     }
 }
 

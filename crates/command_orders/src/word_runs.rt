@@ -16,8 +16,8 @@ use crate::streams::Streams;
 use byte_streams::{Document, FileSystem, Refusal, Sink, Source, write_whole};
 use command_runs::{HintedFault, RunFault, fault_text};
 use command_words::{
-    CensusOrder, CheckOrder, DrawAllOrder, DrawOrder, ExpandOrder, Files, Given, Order, PageOrder,
-    PartPlaces, Place, Subject, WordsFault, order,
+    CensusOrder, CheckOrder, DrawAllOrder, DrawOrder, ExpandOrder, Files, FindOrder, Given, Order,
+    PageOrder, PartPlaces, Place, Subject, WordsFault, order,
 };
 use std::alloc::Global;
 use std::random::RandomSource;
@@ -100,9 +100,8 @@ fn is_always_told(order: &Order, fault: &RunFault) -> bool {
         Order::Solve(order) => order.hints,
         Order::Expand(order) => order.hints,
         Order::Page(order) => order.hints,
-        Order::Explain(_) | Order::ExplainPuzzle(_) | Order::Count(_) | Order::Census(_) => {
-            is_of_texts(fault)
-        }
+        Order::Explain(_) | Order::ExplainPuzzle(_) | Order::Count(_) => is_of_texts(fault),
+        Order::Census(_) | Order::Find(_) => is_of_texts(fault),
         Order::Show(_) | Order::Draw(_) | Order::DrawAll(_) => is_of_texts(fault),
         Order::Symmetries(_) | Order::Tiles(_) => is_of_texts(fault),
         // which of many files it is has to be said everywhere
@@ -167,6 +166,7 @@ fn file_of<'a>(order: &'a Order, document: Document) -> Option<&'a str> {
         Order::Solve(order) => file_of_solve(&order.files, document),
         Order::ExplainPuzzle(place)
         | Order::Census(CensusOrder { puzzle: place, .. })
+        | Order::Find(FindOrder { puzzle: place, .. })
         | Order::Symmetries(place) => file_at(place),
         Order::Show(subject) | Order::Draw(DrawOrder { subject, .. }) => file_of_subject(
             subject, document,
@@ -229,6 +229,7 @@ fn read_from_input(order: &Order) -> Option<&'static str> {
         Order::Solve(order) => puzzle_alone(&order.files.puzzle),
         Order::ExplainPuzzle(place)
         | Order::Census(CensusOrder { puzzle: place, .. })
+        | Order::Find(FindOrder { puzzle: place, .. })
         | Order::Symmetries(place) => { puzzle_alone(place) }
         Order::Total(PartPlaces::Input) => Some("lines of counted parts"),
         Order::Total(PartPlaces::Files(_)) => None,

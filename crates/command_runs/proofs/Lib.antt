@@ -1,4 +1,5 @@
 mod DescribingLemmas
+mod FindingLemmas
 pub mod CensusLemmas
 pub mod PictureLemmas
 pub mod RunLemmas

@@ -90,15 +90,13 @@ printing_kind printing texts _ fails = tt
 -- what a check has of documents, more that is printed has of them
 pub printing_fails : (printing : Printing) (texts : Texts) (fault : RunFault) → CheckFails texts fault → PrintingFails printing texts fault
 printing_fails printing texts runs.Expand fails = absurd fails
-printing_fails printing texts (runs.NoArrangement at) fails = absurd fails
-printing_fails printing texts (runs.Arrangement at fault) fails = absurd fails
+printing_fails printing texts (runs.NoArrangement number) fails = absurd fails
 printing_fails printing texts _ fails = fails
 
 -- a fault of the question that texts spell is one of theirs
 pub question_fails : (printing : Printing) (texts : Texts) (question : Question) → Spells texts question → (fault : RunFault) → QuestionFails printing question fault → PrintingFails printing texts fault
 question_fails printing texts question spelled runs.Expand fails = (question, spelled, fails.0, fails.1)
-question_fails printing texts question spelled (runs.NoArrangement at) fails = (question, spelled, fails.0, fails.1)
-question_fails printing texts question spelled (runs.Arrangement at fault) fails = (question, spelled, fails.0, fails.1)
+question_fails printing texts question spelled (runs.NoArrangement number) fails = (question, spelled, fails.0, fails.1)
 question_fails printing texts question spelled runs.Memory fails = tt
 question_fails printing texts question spelled _ fails = absurd fails
 

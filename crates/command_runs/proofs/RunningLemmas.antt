@@ -33,6 +33,17 @@ stopped_over from from' gives gives' fails to to' gave stopped ends writes untou
     (r.0, r.1, f.0, gave r.0 r.3, f.1, writes r.1 r.5)
 stopped_over from from' gives gives' fails to to' gave stopped ends writes untouched _ r = (r.0, gave r.0 r.1, r.2, untouched r.3)
 
+-- a run comes to what else is known of what is given, and of what a fault says
+pub runs_as : {T M E : Type 0} (from : Origin T) (gives gives' : T → M → E → Type 0) (fails fails' : T → RunFault → Type 0) (to : Target M) (result : Result E RunFault)
+    → ((t : T) (fault : RunFault) → fails t fault → IsOfTexts fault) → Runs from gives fails to result
+    → ((t : T) (m : M) (e : E) → gives t m e → gives' t m e) → ((t : T) (fault : RunFault) → fails t fault → fails' t fault) → Runs from gives' fails' to result
+runs_as from gives gives' fails fails' to (Ok ends) kind r given failed = (r.0, r.1, r.2, given r.0 r.1 ends r.3, r.4)
+runs_as from gives gives' fails fails' to (Err (runs.Read of)) kind r given failed = r
+runs_as from gives gives' fails fails' to (Err (runs.TooLong of)) kind r given failed = r
+runs_as from gives gives' fails fails' to (Err runs.Memory) kind r given failed = r
+runs_as from gives gives' fails fails' to (Err runs.Write) kind r given failed = (r.0, r.1, r.2, r.3, given r.0 r.1 r.2 r.4, r.5)
+runs_as from gives gives' fails fails' to (Err _) kind r given failed = (r.0, r.1, failed r.0 _ r.2, r.3)
+
 -- a result with another end
 abbrev pub ended : {E F : Type 0} → (E → F) → Result E RunFault → Result F RunFault
 ended end_of (Ok ends) = Ok (end_of ends)

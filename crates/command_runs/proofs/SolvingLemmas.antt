@@ -1,5 +1,7 @@
 -- What a solve says of a puzzle, and texts that are made in parts.
 use Rattle.std.proofs.Common.{◌≡◌, ◌++◌, ◌∙◌, ℕ, Bool, List, [], Ok, ap, refl}
+use Rattle.std.specs.Prelude.{Vec}
+use Rattle.std.specs.declared.alloc.Global.{Global}
 use Rattle.match_puzzle.specs.Puzzle.{Task}
 use Rattle.match_puzzle.specs.declared.placements.Placement.{Placement}
 use Rattle.match_text.specs.Lists.{list_of}
@@ -19,23 +21,24 @@ use Rattle.solver.specs.declared.faults.SolveFault.{SolveFault}
 use Rattle.solver.specs.declared.faults.SolveFault.TheVariants as solves
 use Rattle.command_runs.specs.FaultText.{run_of_solve}
 use Rattle.command_runs.specs.Runs.{IsOfTexts}
-use Rattle.command_runs.specs.Solving.{IsNotChecked, SolveFailsOf}
+use Rattle.solver.specs.Solving.{IsSolvedBy}
+use Rattle.command_runs.specs.Solving.{IsNotChecked, SolveFailsBy}
 
 -- what a fault of a solve says of the text that spells the puzzle
 pub solve_fails : (text : List ℕ) (p : Task) → PuzzleReads text (Ok p) → (fault : SolveFault) → (fault ≡ solves.TooMany → HasTooManyEntries p)
-    → (check : Bool) → SolveFailsOf check text (run_of_solve fault) × IsOfTexts (run_of_solve fault)
-solve_fails text p read solves.TooMany many check = ((p, read, many refl), tt)
-solve_fails text p read solves.GaveUp many check = ((p, read), tt)
-solve_fails text p read solves.Full many check = ((p, read), tt)
-solve_fails text p read solves.Memory many check = (tt, tt)
+    → (workers : ℕ) (check : Bool) → SolveFailsBy workers check text (run_of_solve fault) × IsOfTexts (run_of_solve fault)
+solve_fails text p read solves.TooMany many workers check = ((p, read, many refl), tt)
+solve_fails text p read solves.GaveUp many workers check = ((p, read), tt)
+solve_fails text p read solves.Full many workers check = ((p, read), tt)
+solve_fails text p read solves.Memory many workers check = (tt, tt)
 
 -- what a check that refuses what was found says of the text
-pub refused_fails : (text : List ℕ) (found : Found) → PuzzleReads text (Ok found.puzzle.now) → (check : Bool) (fault : RunFault) → IsNotChecked check found fault
-    → SolveFailsOf check text fault × IsOfTexts fault
-refused_fails text found read check runs.Refused is =
-    ((is.0, (found.puzzle.now, found.listed.now, found.certificate.now, is.1, read, is.2)), tt)
-refused_fails text found read check runs.Memory is = (tt, tt)
-refused_fails text found read check _ is = absurd is
+pub refused_fails : (text : List ℕ) (found : Found) (workers : ℕ) (tally : List (Vec ℕ Global)) → PuzzleReads text (Ok found.puzzle.now) → IsSolvedBy found.puzzle.now workers found.listed.now tally found.certificate.now
+    → (check : Bool) (fault : RunFault) → IsNotChecked check found fault → SolveFailsBy workers check text fault × IsOfTexts fault
+refused_fails text found workers tally read solved check runs.Refused is =
+    ((is.0, (found.puzzle.now, found.listed.now, tally, found.certificate.now, is.1, read, solved, is.2)), tt)
+refused_fails text found workers tally read solved check runs.Memory is = (tt, tt)
+refused_fails text found workers tally read solved check _ is = absurd is
 
 -- texts that read as what is complete spell a complete list
 pub read_back : (texts : Texts) (p : Task) (listed : List (List Placement)) (c : Contents) → PuzzleReads texts.puzzle (Ok p)

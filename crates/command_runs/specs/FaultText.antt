@@ -12,6 +12,8 @@ use Rattle.cert_text.specs.declared.faults.CertTextFault.{CertTextFault}
 use Rattle.cert_text.specs.declared.faults.CertTextFault.TheVariants as cert_text
 use Rattle.symmetry_orbits.specs.declared.expansions.ExpandFault.{ExpandFault}
 use Rattle.symmetry_orbits.specs.declared.expansions.ExpandFault.TheVariants as expansions
+use Rattle.find_search.specs.declared.faults.FindFault.{FindFault}
+use Rattle.find_search.specs.declared.faults.FindFault.TheVariants as finds
 use Rattle.show_pictures.specs.declared.plans.NotDrawn.{NotDrawn}
 use Rattle.show_pictures.specs.declared.plans.NotDrawn.TheVariants as not_drawn
 use Rattle.solver.specs.declared.faults.SolveFault.{SolveFault}
@@ -80,6 +82,10 @@ run_of_compile compiles.Memory = Memory
 abbrev pub run_of_expand : ExpandFault → RunFault
 run_of_expand expansions.TooMany = Expand
 run_of_expand expansions.Memory = Memory
+
+abbrev pub run_of_find : FindFault → RunFault
+run_of_find finds.TooMany = Expand
+run_of_find finds.Memory = Memory
 
 abbrev pub run_of_picture : NotDrawn → RunFault
 run_of_picture (not_drawn.NoArrangement number) = NoArrangement number

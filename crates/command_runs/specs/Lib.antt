@@ -2,6 +2,7 @@ pub mod Census
 pub mod Checking
 pub mod Describing
 pub mod FaultText
+pub mod Finding
 pub mod Listed
 pub mod Pages
 pub mod Pictures

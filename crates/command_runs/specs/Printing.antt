@@ -1,5 +1,5 @@
 -- What is printed of three documents beside the line of their answer.
-use Rattle.std.specs.Prelude.{◌≡◌, ◌++◌, ℕ, List, length}
+use Rattle.std.specs.Prelude.{◌≡◌, ◌≤◌, ◌++◌, ℕ, List, length}
 use Rattle.match_limits.specs.declared.TheConstants.{MOST_ARRANGEMENTS}
 use Rattle.match_puzzle.specs.declared.placements.Placement.{Placement}
 use Rattle.match_text.specs.ListSpelling.{IsListText}
@@ -10,9 +10,6 @@ use Rattle.cert_check.specs.declared.faults.Answer.TheVariants.{Complete, Refuse
 use Rattle.match_report.specs.AnswerText.{answer_line}
 use Rattle.match_report.specs.CompleteLists.{AreAllInOrder, AreFirstsOf, IsCountOf, count_text}
 use Rattle.show_pictures.specs.Listed.{IsPictureFrom}
-use Rattle.show_pictures.specs.Plans.{IsNotDrawn}
-use Rattle.show_pictures.specs.declared.plans.NotDrawn.{NotDrawn}
-use Rattle.show_pictures.specs.declared.plans.NotDrawn.TheVariants as not_drawn
 use Rattle.show_refusals.specs.Explanation.{IsExplanation}
 use Rattle.symmetry_orbits.specs.Expansion.{AreMoreReached}
 use Rattle.symmetry_orbits.specs.Orbits.{AreMoreListedOrInOrbit}
@@ -66,12 +63,11 @@ AreTooMany printings.Count question =
     AreMoreListedOrInOrbit MOST_ARRANGEMENTS question.puzzle question.symmetries question.listed
 AreTooMany printings.Explanation question = ⊥
 
--- Nothing is drawn of all arrangements, for this reason.
-abbrev pub IsNoneDrawn : Printing → Question → NotDrawn → Type 0
-IsNoneDrawn (printings.Picture plan) question fault =
-    (all : List (List Placement)) × AreAllInOrder question all
-    × IsNotDrawn plan.number plan.first question.puzzle all fault
-IsNoneDrawn printing question fault = ⊥
+-- All arrangements are so few that none has the number of the first that is to be drawn.
+abbrev pub AreTooFew : Printing → Question → (number : ℕ) → Type 0
+AreTooFew (printings.Picture plan) question number =
+    (all : List (List Placement)) × AreAllInOrder question all × (number ≡ plan.number) × (length all ≤ number)
+AreTooFew printing question number = ⊥
 
 -- What is printed of a question, and the status: what was asked of its answer.
 pub record IsPrinted (printing : Printing) (question : Question) (printed : List ℕ) (status : Status) : Type 0 where
@@ -81,14 +77,12 @@ pub record IsPrinted (printing : Printing) (question : Question) (printed : List
   pub is : Prints question answer printing printed
   pub ends : status ≡ status_of answer
 
--- What a fault says of a question: its list is complete, and too much is to be printed so, or nothing is to be drawn; or
--- it is want of memory.
+-- What a fault says of a question: its list is complete, and too much is to be printed so, or there is nothing to draw;
+-- or it is want of memory.
 abbrev pub QuestionFails : Printing → Question → RunFault → Type 0
 QuestionFails printing question runs.Expand = IsAnswer question Complete × AreTooMany printing question
-QuestionFails printing question (runs.NoArrangement at) =
-    IsAnswer question Complete × IsNoneDrawn printing question (not_drawn.NoArrangement at)
-QuestionFails printing question (runs.Arrangement at fault) =
-    IsAnswer question Complete × IsNoneDrawn printing question (not_drawn.Arrangement at fault)
+QuestionFails printing question (runs.NoArrangement number) =
+    IsAnswer question Complete × AreTooFew printing question number
 QuestionFails printing question runs.Memory = Unit {0}
 QuestionFails printing question fault = ⊥
 
@@ -97,16 +91,14 @@ abbrev pub SpellTooMany : Printing → Texts → Type 0
 SpellTooMany printing texts =
     (question : Question) × Spells texts question × IsAnswer question Complete × AreTooMany printing question
 
--- The list is complete, and nothing is drawn of all arrangements.
-abbrev pub SpellNoneDrawn : Printing → Texts → NotDrawn → Type 0
-SpellNoneDrawn printing texts fault =
-    (question : Question) × Spells texts question × IsAnswer question Complete × IsNoneDrawn printing question fault
+-- The list is complete, and none of all arrangements has this number.
+abbrev pub SpellTooFew : Printing → Texts → (number : ℕ) → Type 0
+SpellTooFew printing texts number =
+    (question : Question) × Spells texts question × IsAnswer question Complete × AreTooFew printing question number
 
--- What a fault says of the documents: too much is to be printed of them, or nothing is to be drawn, or they have it, or it
--- is want of memory.
+-- What a fault says of the documents: too much is to be printed of them, or there is nothing to draw, or they have it, or
+-- it is want of memory.
 abbrev pub PrintingFails : Printing → Texts → RunFault → Type 0
 PrintingFails printing texts runs.Expand = SpellTooMany printing texts
-PrintingFails printing texts (runs.NoArrangement at) = SpellNoneDrawn printing texts (not_drawn.NoArrangement at)
-PrintingFails printing texts (runs.Arrangement at fault) =
-    SpellNoneDrawn printing texts (not_drawn.Arrangement at fault)
+PrintingFails printing texts (runs.NoArrangement number) = SpellTooFew printing texts number
 PrintingFails printing texts fault = CheckFails texts fault

@@ -107,20 +107,26 @@ SolveGivesOf plan = SolveGivesBy plan.search.symmetries plan.search.workers plan
 abbrev pub SolveGives : (workers : ℕ) (text : List ℕ) (made : Products) (ends : Unit {0}) → Type 0
 SolveGives workers = SolveGivesBy suggested.All workers false
 
--- The text spells a puzzle, of which a list with its certificate is refused by a check.
-abbrev pub SpellsRefused : (text : List ℕ) → Type 0
-SpellsRefused text =
-    (p : Task) × (listed : List (List Placement)) × (contents : Contents) × (fault : Fault)
-    × PuzzleReads text (Ok p) × IsAnswer (question_of p listed contents) (Refused fault)
+-- The text spells a puzzle, of which `workers` workers find what a check refuses.
+abbrev pub SpellsRefused : (workers : ℕ) (text : List ℕ) → Type 0
+SpellsRefused workers text =
+    (p : Task) × (listed : List (List Placement)) × (tally : List (Vec ℕ Global)) × (contents : Contents)
+    × (fault : Fault) × PuzzleReads text (Ok p) × IsSolvedBy p workers listed tally contents
+    × IsAnswer (question_of p listed contents) (Refused fault)
 
 -- What a fault says of the text: it spells no puzzle, with this fault, or one that is not solved for this reason; or what
 -- was found is to be checked, and is refused; or it is want of memory.
-abbrev pub SolveFailsOf : (check : Bool) → (text : List ℕ) → RunFault → Type 0
-SolveFailsOf check text (runs.Solve solves.TooMany) = (p : Task) × PuzzleReads text (Ok p) × HasTooManyEntries p
-SolveFailsOf check text (runs.Solve solves.Memory) = ⊥
-SolveFailsOf check text (runs.Solve fault) = (p : Task) × PuzzleReads text (Ok p)
-SolveFailsOf check text runs.Refused = (check ≡ true) × SpellsRefused text
-SolveFailsOf check text fault = DescribeFails text fault
+abbrev pub SolveFailsBy : (workers : ℕ) (check : Bool) (text : List ℕ) → RunFault → Type 0
+SolveFailsBy workers check text (runs.Solve solves.TooMany) = (p : Task) × PuzzleReads text (Ok p) × HasTooManyEntries p
+SolveFailsBy workers check text (runs.Solve solves.Memory) = ⊥
+SolveFailsBy workers check text (runs.Solve fault) = (p : Task) × PuzzleReads text (Ok p)
+SolveFailsBy workers check text runs.Refused = (check ≡ true) × SpellsRefused workers text
+SolveFailsBy workers check text fault = DescribeFails text fault
 
-abbrev pub SolveFails : (text : List ℕ) → RunFault → Type 0
-SolveFails = SolveFailsOf false
+-- what a fault says of the text by this plan
+abbrev pub SolveFailsOf : SolvePlan → (text : List ℕ) → RunFault → Type 0
+SolveFailsOf plan = SolveFailsBy plan.search.workers plan.check
+
+-- what a fault says of the text where no check is asked for
+abbrev pub SolveFails : (workers : ℕ) (text : List ℕ) → RunFault → Type 0
+SolveFails workers = SolveFailsBy workers false

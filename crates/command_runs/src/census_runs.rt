@@ -1,7 +1,6 @@
 //! Runs that count the arrangements of a puzzle by a search.
 
 ghost use Rattle.std.specs.Prelude.{◌≡◌, ◌<◌, ◌≤◌, ◌++◌, ◌⊎◌, IfOk, IfErr, MatchOption, OnOk, codes, length, vec_len};
-ghost use Rattle.puzzle_symmetry.specs.Motion.{AreOfPuzzle};
 ghost use Rattle.show_text.specs.Facts.{number_line};
 ghost use Rattle.xcc_form.specs.Chosen.{IsSelection};
 ghost use Rattle.count_search.specs.Branches.{AllChoose, HaveTogether, IsSplit};
@@ -22,6 +21,7 @@ ghost use Rattle.command_runs.specs.Runs.{MadeOf, Runs, unhinted};
 use crate::faults::RunFault;
 use crate::hints::{HintedFault, hint_on, with_hint};
 use crate::running::run_by;
+use crate::suggested::suggested_symmetries;
 use byte_streams::{Document, MadeText, OneSink, OneSource, Sink, Source, Text};
 use command_words::{Extent, Parts};
 use count_search::{
@@ -30,7 +30,7 @@ use count_search::{
 use count_totals::{CountedPart, Line, SplitLine, put_line};
 use match_limits::Workers;
 use match_puzzle::Puzzle;
-use match_symmetry::{Symmetry, SymmetryFault, suggest};
+use match_symmetry::Suggested;
 use match_text::read_puzzle;
 use sha2::{Digest, Sha256};
 use solver::SolveFault;
@@ -336,24 +336,8 @@ fn branches_of(alloc: Global, xcc: &Xcc<'_>, least: u32) -> Result<Vec<Branch>, 
     ensures selections { IfOk result (λ v. AllChoose (IsSelection xcc.now) v.items) }
     ensures few { IfOk result (λ v. vec_len v ≤ MOST_BRANCHES) }
 {
-    let symmetries = symmetries_of(alloc, xcc.puzzle())?;
+    let symmetries = suggested_symmetries(alloc, xcc.puzzle(), Suggested::All)?;
     split(alloc, xcc, &symmetries, least)
-}
-
-// Symmetries of the puzzle, by which branches are merged.
-fn symmetries_of<'a>(alloc: Global, puzzle: &'a Puzzle) -> Result<Vec<Symmetry<'a>>, AllocError>
-    ensures { IfOk result (λ v. AreOfPuzzle puzzle.now v.items) }
-{
-    let lines = suggest(alloc, puzzle)?;
-    let mut symmetries = Vec::new(alloc);
-    for line in &lines {
-        match Symmetry::new(alloc, puzzle, line) {
-            Ok(symmetry) => symmetries.push(symmetry)?,
-            Err(SymmetryFault::Memory) => return Err(AllocError),
-            Err(_) => continue,
-        }
-    }
-    Ok(symmetries)
 }
 
 // A line of this word and this number.

@@ -4,12 +4,13 @@ ghost use Rattle.std.specs.Prelude.{◌≡◌, Some, IfOk};
 ghost use Rattle.command_runs.specs.FaultText.{run_fault_text, fault_line};
 ghost use Rattle.command_runs.specs.declared.faults.RunFault.TheVariants as run_fault;
 ghost use Rattle.command_runs.specs.FaultText.{run_of_file, run_of_input, run_of_puzzle, run_of_list, run_of_certificate};
-ghost use Rattle.command_runs.specs.FaultText.{run_of_compile, run_of_expand, run_of_parts, run_of_picture, run_of_solve, run_of_tiles};
+ghost use Rattle.command_runs.specs.FaultText.{run_of_compile, run_of_expand, run_of_find, run_of_parts, run_of_picture, run_of_solve, run_of_tiles};
 
 use byte_streams::{Document, Failed, FileFault, InputFault};
 use cert_text::CertTextFault;
 use cert_tree::AssembleFault;
 use count_totals::PartsFault;
+use find_search::FindFault;
 use match_board::TilesFault;
 use match_puzzle::{ArrangementFault, PuzzleFault};
 use match_report::ExpandFault;
@@ -192,6 +193,17 @@ impl From<ExpandFault> for RunFault {
         match fault {
             ExpandFault::TooMany => RunFault::Expand,
             ExpandFault::Memory => RunFault::Memory,
+        }
+    }
+}
+
+impl From<FindFault> for RunFault {
+    ghost from_gives = { λ fault e. e ≡ run_of_find fault };
+
+    fn from(fault: FindFault) -> RunFault {
+        match fault {
+            FindFault::TooMany => RunFault::Expand,
+            FindFault::Memory => RunFault::Memory,
         }
     }
 }

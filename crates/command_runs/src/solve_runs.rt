@@ -10,7 +10,7 @@ ghost use Rattle.byte_streams.specs.Origins.{one_source};
 ghost use Rattle.byte_streams.specs.Targets.{three_sinks};
 ghost use Rattle.byte_streams.specs.declared.faults.Document.TheVariants as documents;
 ghost use Rattle.command_runs.specs.Runs.{MadeOf, Runs, unhinted};
-ghost use Rattle.command_runs.specs.Solving.{AreProducts, IsFound, IsFoundComplete, IsNotChecked, SolveFails, SolveFailsOf, SolveGives};
+ghost use Rattle.command_runs.specs.Solving.{AreProducts, IsFound, IsFoundComplete, IsNotChecked, SolveFails, SolveFailsBy, SolveFailsOf, SolveGives};
 ghost use Rattle.command_runs.specs.Solving.{SolveGivesOf, checked_line, first_board, report_text, shares_of};
 
 use crate::advice::{solve_hint, word_before};
@@ -63,7 +63,7 @@ pub fn run_solve<R: Threads + Wait + Sync, P: Source, L: Sink, C: Sink, W: Sink>
     writer: &mut W,
 ) -> Result<(), RunFault>
     ensures { Runs (one_source documents.Puzzle (reading_of P.Source puzzle.old puzzle.new)) (SolveGives workers)
-        SolveFails (three_sinks (writing_of L.Sink list.old list.new)
+        (SolveFails workers) (three_sinks (writing_of L.Sink list.old list.new)
         (writing_of C.Sink certificate.old certificate.new) (writing_of W.Sink writer.old writer.new)) result }
 {
     let mut inputs = OneSource {
@@ -98,7 +98,7 @@ pub fn run_solve<R: Threads + Wait + Sync, P: Source, L: Sink, C: Sink, W: Sink>
 ///
 /// Where the plan has a check, what was found is checked before anything is written. What is written is then a complete
 /// list with its certificate, and the report ends with the line `complete N`. `Refused` comes where the check refuses
-/// what was found, and the watch is told its answer.
+/// what was found; the watch is told its answer, unless memory is refused to that.
 ///
 /// Where a hint is wanted, it says what has to be changed in a text that has a fault; for a search that gave up or found
 /// too many, how many arrangements may be expected, and what may help. There is no hint where memory is refused to it.
@@ -115,12 +115,13 @@ pub fn run_solve_watched<
     outputs: &mut O,
 ) -> Result<(), HintedFault>
     ensures same { I.same inputs.old inputs.new × O.same outputs.old outputs.new }
-    ensures run { Runs (I.reads inputs.old inputs.new) (SolveGivesOf search.now.plan) (SolveFailsOf search.now.plan.check)
-        (O.writes outputs.old outputs.new) (unhinted result) }
+    ensures run { let plan = search.now.plan in Runs (I.reads inputs.old inputs.new) (SolveGivesOf plan)
+        (SolveFailsBy plan.search.workers plan.check) (O.writes outputs.old outputs.new) (unhinted result) }
 {
     let mut hint = None;
     let make = |text: &Text| -> Result<(Products, ()), RunFault>
-        ensures { MadeOf (SolveGivesOf search.entry.now.plan) (SolveFailsOf search.entry.now.plan.check) text.now result }
+        ensures { let plan = search.entry.now.plan in
+            MadeOf (SolveGivesOf plan) (SolveFailsBy plan.search.workers plan.check) text.now result }
     {
         let made = make_products(rt, alloc, text, search);
         if let (true, Err(fault)) = (search.hints, &made) {
@@ -139,7 +140,7 @@ fn make_products<R: Threads + Wait + Sync, T: SolveWatch + Sync>(
     text: &Text,
     search: &Watched<'_, SolvePlan, T>,
 ) -> Result<(Products, ()), RunFault>
-    ensures { MadeOf (SolveGivesOf search.now.plan) (SolveFailsOf search.now.plan.check) text.now result }
+    ensures { MadeOf (SolveGivesOf search.now.plan) (SolveFailsOf search.now.plan) text.now result }
 {
     let puzzle = read_puzzle(alloc, text.bytes())?;
     tell_before(alloc, &puzzle, search);
@@ -164,7 +165,7 @@ fn solved<R: Threads + Wait + Sync, T: SolveWatch + Sync>(
     search: &Watched<'_, SolvePlan, T>,
 ) -> Result<(Products, ()), RunFault>
     ensures { (text : List ℕ) → PuzzleReads text (Ok puzzle.now)
-        → MadeOf (SolveGivesOf search.now.plan) (SolveFailsOf search.now.plan.check) text result }
+        → MadeOf (SolveGivesOf search.now.plan) (SolveFailsOf search.now.plan) text result }
 {
     // There are at most 64, and so are the lines of the report.
     let _workers_in_range = search.plan.search.workers.get();
@@ -214,8 +215,10 @@ fn check_if_asked<R: Threads + Wait + Sync, T: SolveWatch + Sync>(
     match check_question(rt, alloc, &question, workers, 0, &Open)? {
         Answer::Complete => Ok(()),
         refused => {
-            let verdict = write_verdict(alloc, &question, &refused)?;
-            search.watch.refuses(&verdict.line);
+            // Want of memory for the line doesn't hide the refusal.
+            if let Ok(verdict) = write_verdict(alloc, &question, &refused) {
+                search.watch.refuses(&verdict.line);
+            }
             Err(RunFault::Refused)
         }
     }

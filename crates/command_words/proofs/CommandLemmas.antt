@@ -31,6 +31,29 @@ check_progress rows m = has_flag (command_at (codes "check")) rows (rule_at (com
 pub check_hints : (rows : List Row) → AreMatchesOf (codes "check") rows → HasFlag (codes "hints") rows
 check_hints rows m = has_flag (command_at (codes "check")) rows (rule_at (command_at (codes "check")) 6) (check_needed rows m) refl refl refl
 
+-- ---- `find`
+
+find_needed : (rows : List Row) → AreMatchesOf (codes "find") rows → HasNeeded (command_at (codes "find")) rows
+find_needed rows m = needed (codes "find") rows m refl
+
+pub find_puzzle : (rows : List Row) → AreMatchesOf (codes "find") rows → HasText (codes "PUZZLE") rows
+find_puzzle rows m = has_text (command_at (codes "find")) rows (codes "PUZZLE") (find_needed rows m) refl
+
+pub find_first : (rows : List Row) → AreMatchesOf (codes "find") rows → HasNumber (codes "first") 1 1000000 rows
+find_first rows m = has_number (command_at (codes "find")) rows (rule_at (command_at (codes "find")) 1) 1 1000000 (find_needed rows m) refl refl refl
+
+pub find_orbits : (rows : List Row) → AreMatchesOf (codes "find") rows → HasFlag (codes "orbits") rows
+find_orbits rows m = has_flag (command_at (codes "find")) rows (rule_at (command_at (codes "find")) 2) (find_needed rows m) refl refl refl
+
+pub find_seed : (rows : List Row) → AreMatchesOf (codes "find") rows → HasNumber (codes "seed") 0 18446744073709551615 rows
+find_seed rows m = has_number (command_at (codes "find")) rows (rule_at (command_at (codes "find")) 4) 0 18446744073709551615 (find_needed rows m) refl refl refl
+
+pub find_workers : (rows : List Row) → AreMatchesOf (codes "find") rows → HasNumber (codes "workers") 1 64 rows
+find_workers rows m = has_number (command_at (codes "find")) rows (rule_at (command_at (codes "find")) 5) 1 64 (find_needed rows m) refl refl refl
+
+pub find_progress : (rows : List Row) → AreMatchesOf (codes "find") rows → HasFlag (codes "progress") rows
+find_progress rows m = has_flag (command_at (codes "find")) rows (rule_at (command_at (codes "find")) 6) (find_needed rows m) refl refl refl
+
 -- ---- `solve`
 
 solve_needed : (rows : List Row) → AreMatchesOf (codes "solve") rows → HasNeeded (command_at (codes "solve")) rows

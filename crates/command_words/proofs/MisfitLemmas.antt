@@ -4,7 +4,7 @@ use Rattle.std.specs.Str.{bytes_eq}
 use Rattle.std.proofs.lemmas.Slice.Eq.{bytes_eq-Decides}
 use Rattle.clap.specs.Words.{Row, Text, first_of}
 use Rattle.command_words.specs.Asked.{AreAskedFor, IsAsked, MayStandAt}
-use Rattle.command_words.specs.Orders.{ArePlaces, AreWritable, AskFor, IsExtent, IsGiven, IsMisfit, IsOrderOf, IsPlace, IsSubject, NameFiles, NameNothing, NamesPuzzle, TellsOfMisfit}
+use Rattle.command_words.specs.Orders.{ArePlaces, AreWritable, AskFor, AskForOrbits, IsExtent, IsFlagged, IsGiven, IsMisfit, IsOrderOf, IsPlace, IsSubject, NameFiles, NamesPuzzle, TellsOfMisfit}
 use Rattle.command_words.specs.Places.{AreTwoOnInput}
 use Rattle.command_words.specs.declared.faults.WordsFault.{WordsFault}
 use Rattle.command_words.specs.declared.faults.WordsFault.TheVariants.{Words, Memory}
@@ -41,6 +41,7 @@ no_count rows listed searched orders.Joined is = is
 no_count rows listed searched (orders.Check order) is = differ (codes "count") (codes "check") refl is.0
 no_count rows listed searched (orders.Explain given) is = differ (codes "count") (codes "explain") refl is.0
 no_count rows listed searched (orders.ExplainPuzzle puzzle) is = differ (codes "count") (codes "explain") refl is.0
+no_count rows listed searched (orders.Find order) is = differ (codes "count") (codes "find") refl is.0
 no_count rows listed searched (orders.Solve order) is = differ (codes "count") (codes "solve") refl is.0
 no_count rows listed searched (orders.Expand order) is = differ (codes "count") (codes "expand") refl is.0
 no_count rows listed searched (orders.Page order) is = differ (codes "count") (codes "page") refl is.0
@@ -60,6 +61,7 @@ no_solve rows none orders.Joined is = is
 no_solve rows none (orders.Check order) is = differ (codes "solve") (codes "check") refl is.0
 no_solve rows none (orders.Explain given) is = differ (codes "solve") (codes "explain") refl is.0
 no_solve rows none (orders.ExplainPuzzle puzzle) is = differ (codes "solve") (codes "explain") refl is.0
+no_solve rows none (orders.Find order) is = differ (codes "solve") (codes "find") refl is.0
 no_solve rows none (orders.Solve order) is = none order.files order.symmetries is.1 is.2 is.6
 no_solve rows none (orders.Expand order) is = differ (codes "solve") (codes "expand") refl is.0
 no_solve rows none (orders.Page order) is = differ (codes "solve") (codes "page") refl is.0
@@ -82,6 +84,42 @@ not_writable rows files named not = no_solve rows (λ other symmetries names wri
 -- none of a solve that asks for no symmetries
 pub not_suggested : (rows : List Row) → ((symmetries : Suggested) → AskFor rows symmetries → ⊥) → (order : Order) → IsOrderOf (Some (codes "solve", rows)) order → ⊥
 not_suggested rows none = no_solve rows (λ files symmetries names writable asked. none symmetries asked)
+
+-- none where no orbits are asked for, nor the want of them
+pub no_find : (rows : List Row) → ((orbits : Option Suggested) → AskForOrbits rows orbits → ⊥) → (order : Order) → IsOrderOf (Some (codes "find", rows)) order → ⊥
+no_find rows none orders.Joined is = is
+no_find rows none (orders.Check order) is = differ (codes "find") (codes "check") refl is.0
+no_find rows none (orders.Explain given) is = differ (codes "find") (codes "explain") refl is.0
+no_find rows none (orders.ExplainPuzzle puzzle) is = differ (codes "find") (codes "explain") refl is.0
+no_find rows none (orders.Find order) is = none order.orbits is.3
+no_find rows none (orders.Solve order) is = differ (codes "find") (codes "solve") refl is.0
+no_find rows none (orders.Expand order) is = differ (codes "find") (codes "expand") refl is.0
+no_find rows none (orders.Page order) is = differ (codes "find") (codes "page") refl is.0
+no_find rows none (orders.Count given) is = differ (codes "find") (codes "count") refl is.0
+no_find rows none (orders.Census order) is = differ (codes "find") (codes "count") refl is.0
+no_find rows none (orders.Total parts) is = differ (codes "find") (codes "total") refl is.0
+no_find rows none (orders.Show subject) is = differ (codes "find") (codes "show") refl is.0
+no_find rows none (orders.Draw order) is = differ (codes "find") (codes "draw") refl is.0
+no_find rows none (orders.DrawAll order) is = differ (codes "find") (codes "draw") refl is.0
+no_find rows none (orders.Symmetries puzzle) is = differ (codes "find") (codes "symmetries") refl is.0
+no_find rows none (orders.Tiles order) is = differ (codes "find") (codes "tiles") refl is.0
+
+-- a flag isn't both given and left out
+flagged_once : (rows : List Row) (id : Text) → IsFlagged id rows true → IsFlagged id rows false → ⊥
+flagged_once rows id given left_out = differ (codes "true") (codes "false") refl (some_is (sym given ∙ left_out))
+
+-- orbits by a word that names no symmetries
+pub orbits_of_none : (rows : List Row) (word : Text) → IsFlagged (codes "orbits") rows true → first_of (codes "symmetries") rows ≡ Some word
+    → ((symmetries : Suggested) → AskFor rows symmetries → ⊥) → (orbits : Option Suggested) → AskForOrbits rows orbits → ⊥
+orbits_of_none rows word given named none None is = flagged_once rows (codes "orbits") given is.0
+orbits_of_none rows word given named none (Some symmetries) (flag, inl asks) = none symmetries asks
+orbits_of_none rows word given named none (Some symmetries) (flag, inr left_out) = none_is_some (sym left_out.0 ∙ named)
+
+-- symmetries without orbits
+pub symmetries_alone : (rows : List Row) (word : Text) → IsFlagged (codes "orbits") rows false → first_of (codes "symmetries") rows ≡ Some word
+    → (orbits : Option Suggested) → AskForOrbits rows orbits → ⊥
+symmetries_alone rows word left_out named None is = none_is_some (sym is.1 ∙ named)
+symmetries_alone rows word left_out named (Some symmetries) is = flagged_once rows (codes "orbits") is.0 left_out
 
 pub named_at : (rows : List Row) (id : Text) (text : Text) → first_of id rows ≡ Some text → first_of id rows ≡ None → ⊥
 named_at rows id text is none = none_is_some (sym none ∙ is)

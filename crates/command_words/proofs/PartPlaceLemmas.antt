@@ -1,5 +1,5 @@
 -- Where lines of counted parts stand, by the words that name it.
-use Rattle.std.proofs.Common.{◌≡◌, ◌∙◌, ◌||◌, zero, suc, Bool, true, false, List, [], ◌∷◌, Option, Some, None, Contains, inl, inr, refl, sym, ap, subst, arith, codes, length, map}
+use Rattle.std.proofs.Common.{◌≡◌, ◌∙◌, ◌||◌, zero, suc, Bool, true, false, List, [], ◌∷◌, Option, Some, None, Contains, inl, inr, refl, sym, ap, arith, codes, length, map}
 use Rattle.std.specs.Prelude.{find}
 use Rattle.std.specs.Borrow.{Bor}
 use Rattle.std.specs.List.{list_any}
@@ -72,6 +72,7 @@ no_total rows nowhere orders.Joined is = is
 no_total rows nowhere (orders.Check order) is = differ (codes "total") (codes "check") refl is.0
 no_total rows nowhere (orders.Explain given) is = differ (codes "total") (codes "explain") refl is.0
 no_total rows nowhere (orders.ExplainPuzzle puzzle) is = differ (codes "total") (codes "explain") refl is.0
+no_total rows nowhere (orders.Find order) is = differ (codes "total") (codes "find") refl is.0
 no_total rows nowhere (orders.Solve order) is = differ (codes "total") (codes "solve") refl is.0
 no_total rows nowhere (orders.Expand order) is = differ (codes "total") (codes "expand") refl is.0
 no_total rows nowhere (orders.Page order) is = differ (codes "total") (codes "page") refl is.0

@@ -1,6 +1,6 @@
 -- The program's commands, as `clap` reads them.
 use Rattle.std.specs.Prelude.{◌≡◌, ℕ, List, true, false, [], ◌∷◌, Some, codes, fold}
-use Rattle.match_limits.specs.declared.TheConstants.{LAST_ARRANGEMENT, MOST_COLOURS, MOST_DEPTH, MOST_FORKS, MOST_FUEL, MOST_WORKERS}
+use Rattle.match_limits.specs.declared.TheConstants.{LAST_ARRANGEMENT, MOST_ARRANGEMENTS, MOST_COLOURS, MOST_DEPTH, MOST_FORKS, MOST_FUEL, MOST_WORKERS}
 use Rattle.clap.specs.Words.{App, Rule, Text, new_app, new_rule, with_rule, with_subcommand}
 use Rattle.clap.specs.Simple.{on_top}
 use Rattle.clap.specs.declared.builder.action.ArgAction.TheVariants.{Append, SetTrue}
@@ -80,6 +80,17 @@ check_app =
 abbrev pub explain_app : App
 explain_app = with_places (new_app (codes "explain"))
 
+abbrev pub find_app : App
+find_app =
+    with_rules (with_puzzle (new_app (codes "find")))
+    (optional_number (codes "first") 1 MOST_ARRANGEMENTS (codes "1")
+    ∷ flag (codes "orbits")
+    ∷ optional_text (codes "symmetries")
+    ∷ optional_number (codes "seed") 0 18446744073709551615 (codes "1975")
+    ∷ optional_number (codes "workers") 1 MOST_WORKERS (codes "1")
+    ∷ flag (codes "progress")
+    ∷ [])
+
 abbrev pub solve_app : App
 solve_app =
     with_rules (with_files (new_app (codes "solve")))
@@ -143,6 +154,7 @@ abbrev pub commands : List App
 commands =
     check_app
     ∷ explain_app
+    ∷ find_app
     ∷ solve_app
     ∷ expand_app
     ∷ page_app

@@ -1,5 +1,5 @@
 -- What words order.
-use Rattle.std.specs.Prelude.{◌≡◌, ◌≢◌, ◌⊎◌, ◌∷◌, ℕ, Bool, List, Option, Some, None, [], Contains, codes, find, map, option_map, true}
+use Rattle.std.specs.Prelude.{◌≡◌, ◌≢◌, ◌⊎◌, ◌∷◌, ℕ, Bool, List, Option, Some, None, [], Contains, codes, find, map, option_map, false, true}
 use Rattle.std.specs.Option.{option_map_or}
 use Rattle.std.specs.Str.{bytes_eq}
 use Rattle.std.specs.String.{string_bytes}
@@ -16,7 +16,7 @@ use Rattle.command_words.specs.declared.places.Files.{Files}
 use Rattle.command_words.specs.declared.orders.Subject.{Subject}
 use Rattle.command_words.specs.declared.orders.Subject.TheVariants.{Board, Listed}
 use Rattle.command_words.specs.declared.orders.Order.{Order}
-use Rattle.command_words.specs.declared.orders.Order.TheVariants.{Joined, Check, Explain, ExplainPuzzle, Solve, Expand, Page, Count, Census, Total, Show, Draw, DrawAll, Symmetries, Tiles}
+use Rattle.command_words.specs.declared.orders.Order.TheVariants.{Joined, Check, Explain, ExplainPuzzle, Find, Solve, Expand, Page, Count, Census, Total, Show, Draw, DrawAll, Symmetries, Tiles}
 use Rattle.command_words.specs.Commands.{whole_app}
 use Rattle.command_words.specs.Parts.{IsPartsText}
 use Rattle.match_symmetry.specs.declared.choices.Suggested.{Suggested}
@@ -147,9 +147,17 @@ abbrev pub word_for : Suggested → Text
 word_for suggested.All = codes "all"
 word_for suggested.OfBoard = codes "board"
 
--- which symmetries the matches of `solve` ask for
+-- which symmetries the matches of a command name
 abbrev pub AskFor : List Row → Suggested → Type 0
 AskFor rows symmetries = first_of (codes "symmetries") rows ≡ Some (word_for symmetries)
+
+-- Whose orbits the matches of `find` ask for: without `--orbits` no symmetry's, and with it those of the symmetries that are
+-- named, which are the board's where none are.
+abbrev pub AskForOrbits : List Row → Option Suggested → Type 0
+AskForOrbits rows None = IsFlagged (codes "orbits") rows false × (first_of (codes "symmetries") rows ≡ None)
+AskForOrbits rows (Some symmetries) =
+    IsFlagged (codes "orbits") rows true
+    × (AskFor rows symmetries ⊎ ((first_of (codes "symmetries") rows ≡ None) × (symmetries ≡ suggested.OfBoard)))
 
 -- The command and its matches give the order.
 abbrev pub IsOrderOf : Option (Text × List Row) → Order → Type 0
@@ -160,6 +168,10 @@ IsOrderOf (Some (name, rows)) (Check order) =
     × IsFlagged (codes "hints") rows order.hints
 IsOrderOf (Some (name, rows)) (Explain given) = (name ≡ codes "explain") × IsGiven rows given
 IsOrderOf (Some (name, rows)) (ExplainPuzzle puzzle) = (name ≡ codes "explain") × NamesPuzzle rows puzzle
+IsOrderOf (Some (name, rows)) (Find order) =
+    (name ≡ codes "find") × IsPlace (codes "PUZZLE") rows order.puzzle × (number_of (codes "first") rows ≡ Some order.first)
+    × AskForOrbits rows order.orbits × (number_of (codes "seed") rows ≡ Some order.seed)
+    × (number_of (codes "workers") rows ≡ Some order.workers) × IsFlagged (codes "progress") rows order.progress
 IsOrderOf (Some (name, rows)) (Solve order) =
     (name ≡ codes "solve") × NameFiles rows order.files × AreWritable order.files
     × (number_of (codes "depth") rows ≡ Some order.depth) × (number_of (codes "fuel") rows ≡ Some order.fuel)

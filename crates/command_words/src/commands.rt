@@ -2,7 +2,7 @@
 
 ghost use Rattle.std.specs.Prelude.{◌≡◌, ◌∷◌, [], IfOk};
 ghost use Rattle.clap.specs.Words.{App, app_of, with_subcommand};
-ghost use Rattle.command_words.specs.Commands.{bare_app, check_app, count_app, draw_app, expand_app, explain_app};
+ghost use Rattle.command_words.specs.Commands.{bare_app, check_app, count_app, draw_app, expand_app, explain_app, find_app};
 ghost use Rattle.command_words.specs.Commands.{page_app, show_app, solve_app, symmetries_app, tiles_app, total_app};
 ghost use Rattle.command_words.specs.Commands.{whole_app, with_commands};
 ghost use Rattle.command_words.specs.Tables.{IsArgOf, IsCommandAs, IsNumbered, IsOfKind, app_by};
@@ -11,8 +11,8 @@ use crate::helps;
 use clap::builder::ValueParser;
 use clap::{Arg, ArgAction, Command};
 use match_limits::{
-    LAST_ARRANGEMENT, MOST_COLOURS, MOST_DEPTH, MOST_DRAWN, MOST_FORKS, MOST_FUEL, MOST_SIDES,
-    MOST_WORKERS,
+    LAST_ARRANGEMENT, MOST_ARRANGEMENTS, MOST_COLOURS, MOST_DEPTH, MOST_DRAWN, MOST_FORKS,
+    MOST_FUEL, MOST_SIDES, MOST_WORKERS,
 };
 use std::alloc::{AllocError, Global};
 
@@ -204,6 +204,42 @@ const ORBITS: Argument = Argument {
     help: "Prints only one arrangement of each orbit",
 };
 
+const FOUND: Argument = Argument {
+    id: "first",
+    kind: Kind::Option { value: "K" },
+    number: Some(Number {
+        least: 1,
+        most: MOST_ARRANGEMENTS as u64,
+        default: Some("1"),
+    }),
+    help: "How many arrangements are printed at most, 1 to 1000000",
+};
+
+const FOUND_ORBITS: Argument = Argument {
+    id: "orbits",
+    kind: Kind::Flag,
+    number: None,
+    help: "Prints no arrangement that is an image of another",
+};
+
+const ORBIT_SYMMETRIES: Argument = Argument {
+    id: "symmetries",
+    kind: Kind::Option { value: "WHICH" },
+    number: None,
+    help: "Which symmetries --orbits goes by: board, the default, or all, which may exchange colours too",
+};
+
+const SEED: Argument = Argument {
+    id: "seed",
+    kind: Kind::Option { value: "N" },
+    number: Some(Number {
+        least: 0,
+        most: u64::MAX,
+        default: Some("1975"),
+    }),
+    help: "What the random numbers begin with, a number below 2^64",
+};
+
 const TITLE: Argument = Argument {
     id: "title",
     kind: Kind::TextOption {
@@ -351,6 +387,21 @@ const EXPLAIN: CommandTable = CommandTable {
     about: "Checks a list, and says why it is refused, or what is wrong with a puzzle",
     arguments: &[ANY_PUZZLE, ANY_LIST, ANY_CERTIFICATE],
     help: helps::EXPLAIN,
+};
+
+const FIND: CommandTable = CommandTable {
+    name: "find",
+    about: "Finds one arrangement of a puzzle, or several, and prints their list",
+    arguments: &[
+        PUZZLE,
+        FOUND,
+        FOUND_ORBITS,
+        ORBIT_SYMMETRIES,
+        SEED,
+        SEARCHING_WORKERS,
+        PROGRESS,
+    ],
+    help: helps::FIND,
 };
 
 const SOLVE: CommandTable = CommandTable {
@@ -512,6 +563,12 @@ pub(crate) fn explain<'a>(alloc: Global) -> Result<Command<'a>, AllocError>
     command_of(alloc, &EXPLAIN)
 }
 
+pub(crate) fn find<'a>(alloc: Global) -> Result<Command<'a>, AllocError>
+    ensures { IfOk result (IsCommandAs find_app) }
+{
+    command_of(alloc, &FIND)
+}
+
 pub(crate) fn solve<'a>(alloc: Global) -> Result<Command<'a>, AllocError>
     ensures { IfOk result (IsCommandAs solve_app) }
 {
@@ -586,10 +643,11 @@ fn with_list_commands<'a>(
     ensures { (before : App) → IfOk program.entry (λ c. app_of c ≡ before)
         → IfOk result (λ c. app_of c
         ≡ with_commands before
-        (check_app ∷ explain_app ∷ solve_app ∷ expand_app ∷ page_app ∷ count_app ∷ total_app ∷ [])) }
+        (check_app ∷ explain_app ∷ find_app ∷ solve_app ∷ expand_app ∷ page_app ∷ count_app ∷ total_app ∷ [])) }
 {
     let program = with_command(program, check(alloc));
     let program = with_command(program, explain(alloc));
+    let program = with_command(program, find(alloc));
     let program = with_command(program, solve(alloc));
     let program = with_command(program, expand(alloc));
     let program = with_command(program, page(alloc));

@@ -10,7 +10,7 @@ Exit status:
   0  done; for a check, the list is complete
   1  the certificate does not show that the list is complete
   2  anything else; standard error says what
-  3  solve and count: it gave up, or the puzzle is too large; standard error says which
+  3  find, solve and count: it gave up, or the puzzle is too large; standard error says which
 
 Example:
   cat puzzle list certificate | edgematch";
@@ -73,6 +73,31 @@ Exit status:
 
 Example:
   edgematch solve puzzle list certificate --check --depth 2 --workers 4";
+
+pub(crate) const FIND: &str = "\
+Prints a list of at most K different arrangements of the puzzle; without --first, K is 1. show and draw read \
+such a list. Where it has fewer than K, there is no other arrangement. That is proved of the program, but \
+nothing that is printed shows it to others: solve writes a certificate.
+
+With --orbits no arrangement of the list is an image of another. Where the list has fewer than K, every \
+arrangement is an image of one of these. Images come of turns and mirror images of the board that are \
+symmetries of the puzzle, and of exchanges of equal tiles; with --symmetries all they come of exchanges of \
+colours too. So --orbits --first 2 says whether there is just one arrangement, up to turns and mirror images \
+of the board: then the list has one. If it says too many expanded, one arrangement has over 1,000,000 images.
+
+It searches at random. Where it has found nothing for a while, it begins anew and goes on longer. Each worker \
+searches by itself, with a seed of its own: the first with that of --seed, each further one with the next \
+number. The list of the one that is done first is printed. So with one worker a seed always gives the same \
+list, and with several it may be another each time.
+
+Exit status:
+  0  the list is printed, also where it has no arrangement
+  2  anything else; standard error says what
+  3  too many options, or with --orbits too many expanded; standard error says which
+
+Examples:
+  edgematch find puzzle | edgematch draw puzzle - > picture.svg
+  edgematch find puzzle --orbits --first 2";
 
 pub(crate) const EXPAND: &str = "\
 Prints the arrangements of the list and their images under the symmetries of the certificate. Where the list \
@@ -146,10 +171,8 @@ them. orbits K counts arrangements that the symmetries of the certificate take i
 symmetries S says how many symmetries the certificate names. Where the list is refused, it prints the answer \
 of check.
 
-With --most M it prints arrangements more than M as soon as it has found more; --most 1 says whether there is \
-just one. Where tiles may be turned, the border asks for the same all around or for nothing, and there are no \
-clues, each turn of the whole board is another arrangement. Then use --most 4 on a square board, 2 on another \
-rectangle, 3 on a triangle and 6 on a hexagon.
+With --most M it prints arrangements more than M as soon as it has found more. Whether there is just one, up \
+to turning the board, find --orbits --first 2 says.
 
 With --part K/N it counts in part K of N of the search, and prints three lines. puzzle DIGEST has the SHA-256 \
 of the puzzle's file. split BRANCHES HASH has the number of branches into which the search was split, and a \

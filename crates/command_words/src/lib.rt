@@ -10,8 +10,8 @@ mod readings;
 
 pub use faults::WordsFault;
 pub use orders::{
-    CensusOrder, CheckOrder, DrawAllOrder, DrawOrder, ExpandOrder, Extent, Order, PageOrder, Parts,
-    SolveOrder, Subject, TilesOrder,
+    CensusOrder, CheckOrder, DrawAllOrder, DrawOrder, ExpandOrder, Extent, FindOrder, MostFound,
+    Order, PageOrder, Parts, SolveOrder, Subject, TilesOrder,
 };
 pub use places::{Files, Given, PartPlaces, Place, Places, TwoPlaces};
 pub use readings::order;

@@ -2,7 +2,8 @@
 
 use crate::places::{Files, Given, PartPlaces, Place, TwoPlaces};
 use match_limits::{
-    ArrangementNumber, Colours, Depth, Drawn, Forks, Fuel, OtherParts, Sides, Workers,
+    ArrangementNumber, Colours, Depth, Drawn, Forks, Fuel, MOST_ARRANGEMENTS, OtherParts, Sides,
+    Within, Workers,
 };
 use match_symmetry::Suggested;
 
@@ -78,6 +79,28 @@ pub struct CheckOrder {
     pub progress: bool,
     /// Whether it says what has to be changed in a text that has a fault, even where no terminal shows it.
     pub hints: bool,
+}
+
+/// How many arrangements are asked for at most: as many as a list may have.
+pub type MostFound = Within<1, 1_000_000>;
+
+// A type's bounds can't name the limit, so they have its digits.
+const _: () = prove!(MOST_ARRANGEMENTS == 1_000_000);
+
+/// A search for some arrangements of the puzzle at a place. It prints their list.
+#[derive(Drop)]
+pub struct FindOrder {
+    pub puzzle: Place,
+    /// How many arrangements it prints at most.
+    pub first: MostFound,
+    /// Which symmetries are looked for, of which none takes a printed arrangement to another; `None` where arrangements
+    /// only have to be different.
+    pub orbits: Option<Suggested>,
+    /// What the random numbers of the first worker begin with.
+    pub seed: u64,
+    pub workers: Workers,
+    /// Whether it says meanwhile how far it is.
+    pub progress: bool,
 }
 
 /// A search for all arrangements of a puzzle. It writes the files of their list and of a certificate.
@@ -174,6 +197,8 @@ pub enum Order {
     Explain(Given),
     /// Say whether the text of the puzzle at this place has a fault.
     ExplainPuzzle(Place),
+    /// Search for some arrangements of a puzzle, and print their list.
+    Find(FindOrder),
     /// Search for all arrangements of a puzzle, and write their list and a certificate. The files that are there stay
     /// until both are written.
     Solve(SolveOrder),

@@ -1,12 +1,12 @@
 //! Reads words as orders.
 
-ghost use Rattle.std.specs.Prelude.{◌≡◌, ◌↔◌, ◌<◌, ◌^◌, ℕ, List, Contains, Some, codes, map, IfOk, IfErr, IsTrue, MatchOption};
+ghost use Rattle.std.specs.Prelude.{◌≡◌, ◌↔◌, ◌<◌, ◌^◌, ℕ, List, Option, Contains, Some, codes, map, IfOk, IfErr, IsTrue, MatchOption};
 ghost use Rattle.std.specs.String.{string_bytes};
 ghost use Rattle.std.specs.Str.Parse.{digits_value, without_leading_plus};
 ghost use Rattle.clap.specs.Words.{IsUnsignedIn, Row, first_of, found_of, kind_of, rows_of};
 ghost use Rattle.clap.specs.declared.error.kind.ErrorKind.TheVariants.{ArgumentConflict};
 ghost use Rattle.command_words.specs.Places.{input_name};
-ghost use Rattle.command_words.specs.Orders.{AreMatchesOf, AreNamedParts, AreWritable, AskFor, HasFiles, HasFlag, HasNumber, HasText, IsExtent, IsFlagged};
+ghost use Rattle.command_words.specs.Orders.{AreMatchesOf, AreNamedParts, AreWritable, AskFor, AskForOrbits, HasFiles, HasFlag, HasNumber, HasText, IsExtent, IsFlagged};
 ghost use Rattle.command_words.specs.Orders.{IsGiven, IsMisfit, IsOrder, IsOrderOf, IsPlace, IsRefused};
 ghost use Rattle.command_words.specs.Orders.{IsSubject, MayHaveNumber, NameFiles, TellsOfMisfit, number_of};
 ghost use Rattle.command_words.specs.Asked.{AreAskedFor, IsAsked, IsOfThree, MayStandAt};
@@ -20,13 +20,13 @@ ghost use Rattle.match_symmetry.specs.declared.choices.Suggested.{Suggested};
 
 use crate::commands::{
     check as check_command, count as count_command, draw as draw_command, expand as expand_command,
-    explain as explain_command, page as page_command, program, show as show_command,
-    solve as solve_command, total as total_command,
+    explain as explain_command, find as find_command, page as page_command, program,
+    show as show_command, solve as solve_command, total as total_command,
 };
 use crate::faults::WordsFault;
 use crate::orders::{
-    CensusOrder, CheckOrder, DrawAllOrder, DrawOrder, ExpandOrder, Extent, Order, PageOrder, Parts,
-    SolveOrder, Subject, TilesOrder,
+    CensusOrder, CheckOrder, DrawAllOrder, DrawOrder, ExpandOrder, Extent, FindOrder, Order,
+    PageOrder, Parts, SolveOrder, Subject, TilesOrder,
 };
 use crate::places::{Files, Given, PartPlaces, Place, Places, TwoPlaces};
 use clap::error::ErrorKind;
@@ -57,8 +57,12 @@ const NO_LIST: &str =
 const NOT_WRITTEN: &str =
     "a solve writes no list or certificate to -: ./- is a file of that name, and /dev/stdout is standard output";
 
-// The message for a solve with another word for the symmetries.
+// The message for another word for the symmetries.
 const NOT_SUGGESTED: &str = "--symmetries is all, or board: those that leave each colour as it is";
+
+// The message for symmetries where no orbits are asked for.
+const NO_ORBITS: &str =
+    "--symmetries stands with --orbits, and says which arrangements are images of each other";
 
 // The text with this id.
 fn text(alloc: Global, matches: &ArgMatches<'_>, id: &str) -> Result<String, AllocError>
@@ -86,6 +90,17 @@ fn number<const LEAST: u32, const MOST: u32>(
         unreachable!();
     };
     Within::new(number)
+}
+
+// The number with this id, which may have 64 bits.
+fn seed(matches: &ArgMatches<'_>) -> u64
+    requires { HasNumber (codes "seed") 0 18446744073709551615 (rows_of (found_of matches.now)) }
+    ensures { number_of (codes "seed") (rows_of (found_of matches.now)) ≡ Some result }
+{
+    let Some(text) = matches.get_str("seed") else {
+        unreachable!();
+    };
+    long_number(text)
 }
 
 // Whether the flag with this id is given.
@@ -264,7 +279,7 @@ fn check(alloc: Global, matches: &ArgMatches<'_>) -> Result<Order, WordsFault>
     }))
 }
 
-// Which symmetries the matches of `solve` ask for.
+// Which symmetries the matches of a command name.
 fn suggested(matches: &ArgMatches<'_>) -> Option<Suggested>
     ensures { MatchOption result ((symmetries : Suggested) → AskFor (rows_of (found_of matches.now)) symmetries → ⊥)
         (AskFor (rows_of (found_of matches.now))) }
@@ -277,6 +292,50 @@ fn suggested(matches: &ArgMatches<'_>) -> Option<Suggested>
         "board" => Some(Suggested::OfBoard),
         _ => None,
     }
+}
+
+// Whose orbits the matches of `find` ask for: those of these symmetries, or of none. An `Err` says why the words don't
+// go together.
+fn orbits(matches: &ArgMatches<'_>) -> Result<Option<Suggested>, &'static str>
+    requires { HasFlag (codes "orbits") (rows_of (found_of matches.now)) }
+    ensures asked { IfOk result (AskForOrbits (rows_of (found_of matches.now))) }
+    ensures refused { IfErr result (λ reason. (asked : Option Suggested)
+        → AskForOrbits (rows_of (found_of matches.now)) asked → ⊥) }
+{
+    let word = matches.get_str("symmetries");
+    match (flag(matches, "orbits"), word) {
+        (false, None) => Ok(None),
+        (false, Some(_)) => Err(NO_ORBITS),
+        (true, None) => Ok(Some(Suggested::OfBoard)),
+        (true, Some(_)) => match suggested(matches) {
+            Some(symmetries) => Ok(Some(symmetries)),
+            None => Err(NOT_SUGGESTED),
+        },
+    }
+}
+
+fn find(alloc: Global, matches: &ArgMatches<'_>) -> Result<Order, WordsFault>
+    requires { AreMatchesOf (codes "find") (rows_of (found_of matches.now)) }
+    ensures order { IfOk result (IsOrderOf (Some (codes "find", rows_of (found_of matches.now)))) }
+    ensures refused { IfErr result (IsMisfit (Some (codes "find", rows_of (found_of matches.now)))) }
+{
+    let orbits = match orbits(matches) {
+        Ok(orbits) => orbits,
+        Err(reason) => return Err(misfit(find_command(alloc), "edgematch find", reason)),
+    };
+    let puzzle = puzzle_place(alloc, matches)?;
+    let first = number(matches, "first");
+    let seed = seed(matches);
+    let workers = number(matches, "workers");
+    let progress = flag(matches, "progress");
+    Ok(Order::Find(FindOrder {
+        puzzle,
+        first,
+        orbits,
+        seed,
+        workers,
+        progress,
+    }))
 }
 
 fn solve(alloc: Global, matches: &ArgMatches<'_>) -> Result<Order, WordsFault>
@@ -617,7 +676,8 @@ fn tiles(matches: &ArgMatches<'_>) -> Order
 ///
 /// - only some of three documents are named
 /// - `count` has three documents together with options of a search
-/// - `solve` asks for symmetries by a word other than the two
+/// - `solve` or `find` asks for symmetries by a word other than the two
+/// - `find` asks for symmetries and not for orbits
 /// - `draw` has a certificate and no list
 /// - two documents are to be read from standard input
 pub fn order(alloc: Global, words: &[String]) -> Result<Order, WordsFault>
@@ -643,6 +703,7 @@ fn order_of(alloc: Global, name: &str, matches: &ArgMatches<'_>) -> Result<Order
     match name {
         "check" => check(alloc, matches),
         "explain" => explain(alloc, matches),
+        "find" => find(alloc, matches),
         "solve" => solve(alloc, matches),
         "expand" => expand(alloc, matches),
         "page" => page(alloc, matches),

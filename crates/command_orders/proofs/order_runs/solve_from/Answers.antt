@@ -37,10 +37,10 @@ to g c = three_sinks (list_to g c) (certificate_to g c) (report_to g c)
 
 -- the run came to this, where what is told of it is the same
 run_as : (g : _) (c : After-told-told g) (ended : Result (Unit {0}) RunFault) → unhinted c.told-told.result ≡ ended
-    → Runs (from g c) (SolveGivesOf (solve_plan_of c.args.order.now)) (SolveFailsOf c.args.order.now.check) (to g c) ended
+    → Runs (from g c) (SolveGivesOf (solve_plan_of c.args.order.now)) (SolveFailsOf (solve_plan_of c.args.order.now)) (to g c) ended
 run_as g c ended is =
-    subst (Runs (from g c) (SolveGivesOf (solve_plan_of c.args.order.now)) (SolveFailsOf c.args.order.now.check) (to g c)) (sym c.told-told.ensures ∙ is)
-    (subst (λ (p : SolvePlan). Runs (from g c) (SolveGivesOf p) (SolveFailsOf p.check) (to g c) (unhinted c.run_solve_watched-solved.result)) c.solve_plan.ensures
+    subst (Runs (from g c) (SolveGivesOf (solve_plan_of c.args.order.now)) (SolveFailsOf (solve_plan_of c.args.order.now)) (to g c)) (sym c.told-told.ensures ∙ is)
+    (subst (λ (p : SolvePlan). Runs (from g c) (SolveGivesOf p) (SolveFailsOf p) (to g c) (unhinted c.run_solve_watched-solved.result)) c.solve_plan.ensures
     c.run_solve_watched-solved.ensures.run)
 
 pub returns-in_err-are_apart : goal.returns-in_err-are_apart
@@ -73,7 +73,7 @@ written g c texts took =
 pub settle-requires : goal.settle-requires
 settle-requires g c =
     let at = (goal.at.settle-requires g c).After-told-told in
-    after_run (from g at) (SolveGivesOf (solve_plan_of c.args.order.now)) (SolveFailsOf c.args.order.now.check) (to g at) c.told-told.result
+    after_run (from g at) (SolveGivesOf (solve_plan_of c.args.order.now)) (SolveFailsOf (solve_plan_of c.args.order.now)) (to g at) c.told-told.result
     (run_as g at (unhinted c.told-told.result) refl) (λ texts took. (texts, written g at texts took))
 
 pub returns-in-Err-Stopped : goal.returns-in-Err-Stopped

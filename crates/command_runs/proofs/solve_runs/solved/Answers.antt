@@ -16,7 +16,7 @@ use Rattle.command_runs.proofs.solve_runs.solved.Goals as goal
 pub returns-in_err-listed : goal.returns-in_err-listed
 returns-in_err-listed g c =
     let w = err_from_is_err_and c.from_residual.result c.from_residual.ensures.1 in
-    rw (w.1, w.2) (λ text read. solve_fails text c.args.puzzle.now read c.in_err-listed.field-0.0 (λ e. c.in_err-listed.ensures.too_many (ap Err e)) c.args.search.now.plan.check)
+    rw (w.1, w.2) (λ text read. solve_fails text c.args.puzzle.now read c.in_err-listed.field-0.0 (λ e. c.in_err-listed.ensures.too_many (ap Err e)) c.args.search.now.plan.search.workers c.args.search.now.plan.check)
 
 pub returns-in_err-shares : goal.returns-in_err-shares
 returns-in_err-shares g c =

@@ -8,6 +8,9 @@ use Rattle.command_words.proofs.readings.order_of.Goals as goal
 pub check-requires : goal.check-requires
 check-requires c = subst (λ name. AreMatchesOf name (rows_of (found_of c.args.matches.now))) c.in-check.is c.requires
 
+pub find-requires : goal.find-requires
+find-requires c = subst (λ name. AreMatchesOf name (rows_of (found_of c.args.matches.now))) c.in-find.is c.requires
+
 pub solve-requires : goal.solve-requires
 solve-requires c = subst (λ name. AreMatchesOf name (rows_of (found_of c.args.matches.now))) c.in-solve.is c.requires
 
@@ -42,6 +45,14 @@ returns-in-check-clause-order c =
 pub returns-in-check-clause-refused : goal.returns-in-check-clause-refused
 returns-in-check-clause-refused c =
     subst (λ name. IfErr c.check.result (IsMisfit (Some (name, rows_of (found_of c.args.matches.now))))) (sym c.in-check.is) c.check.ensures.refused
+
+pub returns-in-find-clause-order : goal.returns-in-find-clause-order
+returns-in-find-clause-order c =
+    subst (λ name. IfOk c.find.result (IsOrderOf (Some (name, rows_of (found_of c.args.matches.now))))) (sym c.in-find.is) c.find.ensures.order
+
+pub returns-in-find-clause-refused : goal.returns-in-find-clause-refused
+returns-in-find-clause-refused c =
+    subst (λ name. IfErr c.find.result (IsMisfit (Some (name, rows_of (found_of c.args.matches.now))))) (sym c.in-find.is) c.find.ensures.refused
 
 pub returns-in-solve-clause-order : goal.returns-in-solve-clause-order
 returns-in-solve-clause-order c =
@@ -122,4 +133,4 @@ pub unreachable-requires : goal.unreachable-requires
 unreachable-requires c =
     let own = program_has c.requires.words c.requires.faultless c.args.name.now (rows_of (found_of c.args.matches.now)) c.requires.enters in
     let other : (name : Text) → c.args.name.now ≢ name → bytes_eq name c.args.name.now ≡ false = differs c.args.name.now in
-    none_is_some (rw (other (codes "check") c.in_default.not-check, other (codes "explain") c.in_default.not-explain, other (codes "solve") c.in_default.not-solve, other (codes "expand") c.in_default.not-expand, other (codes "page") c.in_default.not-page, other (codes "count") c.in_default.not-count, other (codes "total") c.in_default.not-total, other (codes "show") c.in_default.not-show, other (codes "draw") c.in_default.not-draw, other (codes "symmetries") c.in_default.not-symmetries, other (codes "tiles") c.in_default.not-tiles, other (codes "help") own.no_help) at own.is_named)
+    none_is_some (rw (other (codes "check") c.in_default.not-check, other (codes "explain") c.in_default.not-explain, other (codes "find") c.in_default.not-find, other (codes "solve") c.in_default.not-solve, other (codes "expand") c.in_default.not-expand, other (codes "page") c.in_default.not-page, other (codes "count") c.in_default.not-count, other (codes "total") c.in_default.not-total, other (codes "show") c.in_default.not-show, other (codes "draw") c.in_default.not-draw, other (codes "symmetries") c.in_default.not-symmetries, other (codes "tiles") c.in_default.not-tiles, other (codes "help") own.no_help) at own.is_named)

@@ -1,8 +1,8 @@
-use Rattle.std.proofs.Common.{◌≡◌, ◌∙◌, Some, List, ap, codes, refl, subst, sym, map}
+use Rattle.std.proofs.Common.{◌∙◌, List, ap, codes, refl, subst, sym, map}
 use Rattle.std.specs.Borrow.{Bor}
 use Rattle.std.specs.Option.{option_map}
 use Rattle.clap.specs.Words.{Text, found_of, rows_of}
-use Rattle.command_words.specs.Orders.{AreNamedParts, values_of}
+use Rattle.command_words.specs.Orders.{AreNamedParts}
 use Rattle.command_words.specs.declared.places.PartPlaces.{PartPlaces}
 use Rattle.command_words.proofs.CommandLemmas.{total_file}
 use Rattle.command_words.proofs.MisfitLemmas.{misfits}

@@ -1,5 +1,0 @@
-use Rattle.puzzle_symmetry.specs.Motion.{AreOfPuzzle}
-use Rattle.command_runs.proofs.census_runs.symmetries_of.Given as goal
-
-abbrev pub invariant-loop-line : goal.invariant-loop-line
-invariant-loop-line l = AreOfPuzzle l.puzzle l.symmetries.items

@@ -1,0 +1,4 @@
+pub mod ListLemmas
+pub mod AddingLemmas
+pub mod TurnLemmas
+pub mod RootLemmas
