@@ -105,7 +105,7 @@ package: ## makes an archive in FOLDER (.) for readers who only check, and print
 	  printf '`%s`.\n' "$$(sha256sum <$(PROGRAM) | cut -d ' ' -f 1)"
 	} >>"$$root/README.md"
 	# The other pages for readers. What they lead to beside stands with the sources, and is a name alone here.
-	for page in docs/{FORMATS,BY_HAND,SOLVING,LARGE,GALLERY,THEOREM,PROVED,MEASURED,pages/README} web/README; do
+	for page in docs/{FORMATS,BY_HAND,SOLVING,MAKING,LARGE,GALLERY,THEOREM,PROVED,MEASURED,pages/README} web/README; do
 	  sed -E -e 's/\[([^]]+)\]\((ARCHITECTURE\.md[^)]*|\.\.\/(CONTRIBUTING\.md|(crates|cases)\/[^)]*))\)/\1/g' \
 	    -e 's/\]\(CHECKING\.md/](..\/README.md/g' -e 's/\]\(\.\.\/CHECKING\.md/](..\/..\/README.md/g' "$$page.md" \
 	    >"$$root/$$page.md"

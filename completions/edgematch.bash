@@ -5,12 +5,20 @@ _edgematch() {
   local word=${COMP_WORDS[COMP_CWORD]} before=${COMP_WORDS[COMP_CWORD - 1]} command=${COMP_WORDS[1]} words
   COMPREPLY=()
   if [ "$COMP_CWORD" -eq 1 ]; then
-    words="check explain find solve expand page count total show draw symmetries tiles help --help --version"
+    words="check explain find solve expand page count total generate show draw symmetries tiles help --help --version"
   else
     case $before in
-      --all | --depth | --first | --forks | --fuel | --most | --part | --seed | --title | --workers) return ;;
+      --all | --clues | --colours | --depth | --easiest | --first | --forks | --fuel | --hardest | --like | --most | --part | --seed | --spare | --title | --tries | --workers) return ;;
       --symmetries)
         mapfile -t COMPREPLY < <(compgen -W "all board" -- "$word")
+        return
+        ;;
+      --border)
+        mapfile -t COMPREPLY < <(compgen -W "frame one free each" -- "$word")
+        return
+        ;;
+      --turns)
+        mapfile -t COMPREPLY < <(compgen -W "yes no" -- "$word")
         return
         ;;
     esac
@@ -23,11 +31,12 @@ _edgematch() {
       page) words="--title --first --hints --help" ;;
       count) words="--workers --most --part --progress --help" ;;
       total) words="--help" ;;
+      generate) words="--like --colours --border --turns --mates --spare --clues --different --unique --tries --hardest --easiest --seed --progress --help" ;;
       show) words="--help" ;;
       draw) words="--first --all --numbers --help" ;;
       symmetries) words="--help" ;;
       tiles) words="--lines --help" ;;
-      help) words="check explain find solve expand page count total show draw symmetries tiles help" ;;
+      help) words="check explain find solve expand page count total generate show draw symmetries tiles help" ;;
     esac
   fi
   case $command in

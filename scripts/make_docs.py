@@ -16,7 +16,10 @@ from check_cases import program_at
 HERE = os.path.dirname(os.path.abspath(__file__))
 TOP = os.path.dirname(HERE)
 # The values that may be completed, by what stands for them in a help.
-VALUES = {"WHICH": "all board", "SIDES": "3 4"}
+VALUES = {
+    "WHICH": "all board", "SIDES": "3 4", "KIND": "rect triangle hexagon", "BORDER": "frame one free each",
+    "ANSWER": "yes no",
+}
 # What begins a list of rows in a help. All else is prose.
 HEADINGS = {"Commands:", "Arguments:", "Options:", "Exit status:", "Example:", "Examples:"}
 
@@ -124,7 +127,7 @@ def manual(program, top, commands):
     yield from rows([(f"\\fB{it}\\fR".replace("-", "\\-"), said) for it, said in top.rows["Options:"]])
     yield from paragraphs(notes["options"])
     yield ".SH EXIT STATUS"
-    yield from rows([(f"\\fB{it}\\fR", said) for it, said in top.rows["Exit status:"]], {"find", "solve", "count"})
+    yield from rows([(f"\\fB{it}\\fR", said) for it, said in top.rows["Exit status:"]], {"find", "generate", "solve", "count"})
     yield from (".SH FILES", *paragraphs(notes["files"])[1:], ".SH EXAMPLES")
     for about, of in [("Checks three texts that come joined", top), *((of.about, of) for of in commands.values())]:
         yield from (*([".PP"] if of is not top else []), *roff(about + ":"), ".PP", ".nf", ".RS 4")

@@ -1,7 +1,9 @@
 -- Which orders read standard input, and what the others leave of it.
 use Rattle.std.specs.Prelude.{◌≡◌, ◌||◌, Bool, true, false}
 use Rattle.command_words.specs.declared.orders.Order.{Order}
-use Rattle.command_words.specs.declared.orders.Order.TheVariants.{Joined, Check, Explain, ExplainPuzzle, Find, Solve, Expand, Count, Page, Census, Total, Show, Draw, DrawAll, Symmetries, Tiles}
+use Rattle.command_words.specs.declared.orders.Order.TheVariants.{Joined, Check, Explain, ExplainPuzzle, Find, Solve, Expand, Count, Page, Census, Total, Generate, Show, Draw, DrawAll, Symmetries, Tiles}
+use Rattle.command_words.specs.declared.orders.WantedRules.{WantedRules}
+use Rattle.command_words.specs.declared.orders.WantedRules.TheVariants.{Plain, Like}
 use Rattle.command_words.specs.declared.orders.Subject.{Subject}
 use Rattle.command_words.specs.declared.orders.Subject.TheVariants.{Board, Listed}
 use Rattle.command_words.specs.declared.places.Given.{Given}
@@ -36,6 +38,10 @@ abbrev pub is_subject_on_input : Subject → Bool
 is_subject_on_input (Board puzzle) = is_on_input puzzle
 is_subject_on_input (Listed places number) = is_one_of_two_on_input places
 
+abbrev pub are_rules_on_input : WantedRules → Bool
+are_rules_on_input (Plain rules) = false
+are_rules_on_input (Like puzzle) = is_on_input puzzle
+
 -- Whether an order reads standard input: where one of its documents stands there, or all three joined. A list of tiles
 -- never does.
 abbrev pub reads_input : Order → Bool
@@ -49,6 +55,7 @@ reads_input (Page order) = is_given_on_input order.given
 reads_input (Census order) = is_on_input order.puzzle
 reads_input (Find order) = is_on_input order.puzzle
 reads_input (Total places) = are_parts_on_input places
+reads_input (Generate order) = are_rules_on_input order.rules
 reads_input (Solve order) = is_on_input order.files.puzzle
 reads_input (Show subject) = is_subject_on_input subject
 reads_input (Draw order) = is_subject_on_input order.subject

@@ -2,13 +2,17 @@
 use Rattle.std.specs.Prelude.{◌≡◌, ◌⊎◌, ℕ, Bool, true, false, List, Option, Result, Err}
 use Rattle.std.specs.String.{string_bytes}
 use Rattle.command_words.specs.declared.orders.Extent.{Extent}
+use Rattle.command_words.specs.declared.orders.WantedRules.{WantedRules}
+use Rattle.command_words.specs.declared.orders.WantedRules.TheVariants.{Plain, Like}
+use Rattle.puzzle_drafts.specs.declared.drafts.Draft.{Draft}
+use Rattle.puzzle_drafts.specs.declared.drafts.PlainRules.{PlainRules}
 use Rattle.command_words.specs.declared.orders.Subject.{Subject}
 use Rattle.command_words.specs.declared.orders.Subject.TheVariants.{Board, Listed}
 use Rattle.command_words.specs.declared.orders.Order.{Order}
 use Rattle.command_words.specs.declared.orders.DrawAllOrder.{DrawAllOrder}
 use Rattle.command_words.specs.declared.orders.PageOrder.{PageOrder}
 use Rattle.command_words.specs.declared.orders.SolveOrder.{SolveOrder}
-use Rattle.command_words.specs.declared.orders.Order.TheVariants.{Joined, Check, Explain, ExplainPuzzle, Find, Solve, Expand, Count, Page, Census, Total, Show, Draw, DrawAll, Symmetries, Tiles}
+use Rattle.command_words.specs.declared.orders.Order.TheVariants.{Joined, Check, Explain, ExplainPuzzle, Find, Solve, Expand, Count, Page, Census, Total, Generate, Show, Draw, DrawAll, Symmetries, Tiles}
 use Rattle.byte_streams.specs.Documents.{Texts}
 use Rattle.byte_streams.specs.Moves.{Writing, reading_of}
 use Rattle.byte_streams.specs.Origins.{Origin, joined_source, no_source}
@@ -23,6 +27,7 @@ use Rattle.command_runs.specs.Checking.{CheckFails, CheckGives, SpellCompleteLis
 use Rattle.command_runs.specs.Describing.{Describes, DescribeFails}
 use Rattle.command_orders.specs.Exits.{status_exit}
 use Rattle.command_runs.specs.Finding.{FindFails, FindGives}
+use Rattle.command_runs.specs.Generating.{GenerateFails, GenerateGives, LikeFails, LikeGives}
 use Rattle.command_runs.specs.Listed.{DrawFails, DrawsListed}
 use Rattle.command_runs.specs.Pages.{PageGives}
 use Rattle.command_runs.specs.Pictures.{DrawsPicture, PictureFails}
@@ -115,6 +120,15 @@ FindOf first orbits from output result =
 abbrev pub TotalOf : Origin (List ℕ) → Writing → Result Exit RunFault → Type 0
 TotalOf from output result = Runs from (ThenDone TotalGives) TotalFails (one_sink output) result
 
+-- What a puzzle comes to that is made by these rules.
+abbrev pub PlainOf : PlainRules → Draft → Writing → Result Exit RunFault → Type 0
+PlainOf rules draft output result =
+    Runs no_source (ThenDone (GenerateGives rules draft)) (GenerateFails rules draft) (one_sink output) result
+
+-- What a puzzle comes to that is made by the rules of another.
+abbrev pub LikeOf : Draft → Origin (List ℕ) → Writing → Result Exit RunFault → Type 0
+LikeOf draft from output result = Runs from (ThenDone (LikeGives draft)) (LikeFails draft) (one_sink output) result
+
 -- What comes of a list of tiles: by lines of a puzzle's text, or by their words.
 abbrev pub TilesOf : (sides colours : ℕ) (lines : Bool) → Writing → Result Exit RunFault → Type 0
 TilesOf sides colours true output result =
@@ -177,6 +191,12 @@ module _ {S R W I : Type 0} (system : FileMembers S R W) (source : SourceMembers
         Runs (two_places system source old input given later places) (ThenDone (DrawsPicture number first))
         (PictureFails number first) (one_sink output) result
 
+    -- What comes of a puzzle that is made by these rules, or by those of the puzzle that stands there.
+    abbrev pub GenerateOf : WantedRules → Draft → Writing → Result Exit RunFault → Type 0
+    GenerateOf (Plain rules) draft output result = PlainOf rules draft output result
+    GenerateOf (Like puzzle) draft output result =
+        LikeOf draft (one_place system source old input given later puzzle) output result
+
     -- by files in a later state, and what was written
     module _ (new : S) (output : Writing) where
       -- What an order comes to. No order does anything to a file but a solve.
@@ -209,6 +229,7 @@ module _ {S R W I : Type 0} (system : FileMembers S R W) (source : SourceMembers
           × FindOf order.first order.orbits (one_place system source old input given later order.puzzle) output result
       RunOf (Total places) result =
           (new ≡ old) × TotalOf (given_parts system source input old given later places) output result
+      RunOf (Generate order) result = (new ≡ old) × GenerateOf order.rules order.draft output result
       RunOf (Solve order) result =
           SolveOf (solve_plan_of order) (one_place system source old input given later order.files.puzzle)
           (solved_files order.files system.does system.leads old new output)

@@ -1,9 +1,10 @@
 //! How the program ends.
 
 ghost use Rattle.std.specs.Prelude.{◌≡◌};
-ghost use Rattle.command_orders.specs.Exits.{code_of, fault_exit, status_exit};
+ghost use Rattle.command_orders.specs.Exits.{code_of, fault_exit, make_exit, status_exit};
 
 use command_runs::{RunFault, Status};
+use puzzle_maker::MakeFault;
 
 /// How the program ends, each way with its exit status.
 #[derive(Clone, Copy, PartialEq, Eq, Debug)]
@@ -14,7 +15,7 @@ pub enum Exit {
     Refused,
     /// 2: the words are wrong, or there was any other fault.
     Failed,
-    /// 3: the puzzle was not solved.
+    /// 3: the puzzle was not solved, or no puzzle was found that is as asked.
     Unsolved,
 }
 
@@ -35,8 +36,19 @@ impl Exit {
     {
         match fault {
             RunFault::Solve(_) => Exit::Unsolved,
+            RunFault::Make(fault) => Exit::of_make(fault),
             RunFault::Refused => Exit::Refused,
             _ => Exit::Failed,
+        }
+    }
+
+    // How a run ends that made no puzzle.
+    fn of_make(fault: &MakeFault) -> Exit
+        ensures { result ≡ make_exit fault.now }
+    {
+        match fault {
+            MakeFault::GaveUp | MakeFault::TooMany => Exit::Unsolved,
+            MakeFault::Misfit(_) | MakeFault::Memory => Exit::Failed,
         }
     }
 

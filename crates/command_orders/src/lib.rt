@@ -4,6 +4,7 @@
 
 mod exits;
 mod files;
+mod generate_runs;
 mod given_inputs;
 mod laws;
 mod made_files;

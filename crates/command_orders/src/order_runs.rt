@@ -16,6 +16,7 @@ ghost use Rattle.command_orders.specs.SolvedFiles.{PutsAll, solved_files};
 
 use crate::exits::Exit;
 use crate::files::{are_apart, hint_on, open};
+use crate::generate_runs::generate;
 use crate::made_files::{make_files, not_put, replaced};
 use crate::part_files::PartFiles;
 use crate::place_runs::{
@@ -130,6 +131,7 @@ pub fn run_order<
         }
         Order::Census(order) => count(rt, alloc, order, system, streams.input, streams.output),
         Order::Find(order) => find(rt, alloc, order, system, streams.input, streams.output),
+        Order::Generate(order) => generate(rt, alloc, order, system, streams.input, streams.output),
         Order::Total(parts) => add_up(alloc, parts, system, streams.input, streams.output),
         Order::Show(subject) => show(alloc, subject, system, streams.input, streams.output),
         Order::Draw(order) => picture(alloc, order, system, streams.input, streams.output),

@@ -8,6 +8,7 @@ use command_runs::{CheckSize, CheckWatch, HintedFault, RunFault, SolveWatch};
 use count_search::CensusWatch;
 use find_search::FindWatch;
 use match_limits::MOST_BYTES;
+use puzzle_maker::{Flaw, MakerWatch};
 use solver::{SolveFault, Watch};
 use std::alloc::Global;
 use std::sync::atomic::{AtomicBool, AtomicU64, Ordering};
@@ -305,12 +306,42 @@ impl<R: Clock + Eprint> FindWatch for FindProgress<'_, R> {
         self.tell();
     }
 
+    fn goes_on(&self) {
+        self.tell();
+    }
+
     fn found(&self, arrangements: usize) {
         let found = arrangements as u64;
         if found > self.arrangements.load(Ordering::Relaxed) {
             self.arrangements.store(found, Ordering::Relaxed);
         }
         self.tell();
+    }
+}
+
+/// Says which of the puzzles that were drawn was the last that won't do, and why.
+#[derive(Drop)]
+pub struct GenerateProgress<'a, R: Clock + Eprint> {
+    turns: Turns<'a, R>,
+    tries: u32,
+}
+
+impl<'a, R: Clock + Eprint> GenerateProgress<'a, R> {
+    /// Says how far it is if `asked`, otherwise nothing. At most so many puzzles are drawn.
+    pub fn new(rt: &'a R, tries: u32, asked: bool) -> GenerateProgress<'a, R> {
+        GenerateProgress {
+            turns: Turns::new(rt, asked),
+            tries,
+        }
+    }
+}
+
+impl<R: Clock + Eprint> MakerWatch for GenerateProgress<'_, R> {
+    fn failed(&self, number: u32, flaw: Flaw) {
+        if let Some(_) = self.turns.take() {
+            let tries = self.tries;
+            let _ = eprintln!(self.turns.rt; "generate: try {number} of {tries}, {flaw}");
+        }
     }
 }
 

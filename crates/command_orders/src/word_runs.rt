@@ -17,7 +17,7 @@ use byte_streams::{Document, FileSystem, Refusal, Sink, Source, write_whole};
 use command_runs::{HintedFault, RunFault, fault_text};
 use command_words::{
     CensusOrder, CheckOrder, DrawAllOrder, DrawOrder, ExpandOrder, Files, FindOrder, Given, Order,
-    PageOrder, PartPlaces, Place, Subject, WordsFault, order,
+    PageOrder, PartPlaces, Place, Subject, WantedRules, WordsFault, order,
 };
 use std::alloc::Global;
 use std::random::RandomSource;
@@ -101,7 +101,7 @@ fn is_always_told(order: &Order, fault: &RunFault) -> bool {
         Order::Expand(order) => order.hints,
         Order::Page(order) => order.hints,
         Order::Explain(_) | Order::ExplainPuzzle(_) | Order::Count(_) => is_of_texts(fault),
-        Order::Census(_) | Order::Find(_) => is_of_texts(fault),
+        Order::Census(_) | Order::Find(_) | Order::Generate(_) => is_of_texts(fault),
         Order::Show(_) | Order::Draw(_) | Order::DrawAll(_) => is_of_texts(fault),
         Order::Symmetries(_) | Order::Tiles(_) => is_of_texts(fault),
         // which of many files it is has to be said everywhere
@@ -168,6 +168,10 @@ fn file_of<'a>(order: &'a Order, document: Document) -> Option<&'a str> {
         | Order::Census(CensusOrder { puzzle: place, .. })
         | Order::Find(FindOrder { puzzle: place, .. })
         | Order::Symmetries(place) => file_at(place),
+        Order::Generate(order) => match &order.rules {
+            WantedRules::Like(place) => file_at(place),
+            WantedRules::Plain(_) => None,
+        },
         Order::Show(subject) | Order::Draw(DrawOrder { subject, .. }) => file_of_subject(
             subject, document,
         ),
@@ -231,6 +235,10 @@ fn read_from_input(order: &Order) -> Option<&'static str> {
         | Order::Census(CensusOrder { puzzle: place, .. })
         | Order::Find(FindOrder { puzzle: place, .. })
         | Order::Symmetries(place) => { puzzle_alone(place) }
+        Order::Generate(order) => match &order.rules {
+            WantedRules::Like(place) => puzzle_alone(place),
+            WantedRules::Plain(_) => None,
+        },
         Order::Total(PartPlaces::Input) => Some("lines of counted parts"),
         Order::Total(PartPlaces::Files(_)) => None,
         Order::Show(subject) | Order::Draw(DrawOrder { subject, .. }) => one_of_subject(subject),

@@ -1,5 +1,6 @@
 mod DescribingLemmas
 mod FindingLemmas
+mod GeneratingLemmas
 pub mod CensusLemmas
 pub mod PictureLemmas
 pub mod RunLemmas

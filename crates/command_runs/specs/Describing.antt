@@ -8,7 +8,7 @@ use Rattle.match_text.specs.declared.faults.PuzzleTextFault.TheVariants as puzzl
 use Rattle.match_limits.specs.declared.ranges.TheConstants.{SECOND}
 use Rattle.show_pictures.specs.Pictures.{IsPuzzlePicture}
 use Rattle.show_text.specs.Drawing.{IsDrawing}
-use Rattle.show_text.specs.Facts.{IsEstimateLine, IsFacts}
+use Rattle.show_text.specs.Facts.{IsFacts, IsWorkLine}
 use Rattle.xcc_form.specs.Options.{Compiled, HasTooManyEntries, IsCompiled, entries_of}
 use Rattle.show_reasons.specs.Sentences.{TellsReasons}
 use Rattle.puzzle_symmetry.specs.Symmetry.{IsSymmetry}
@@ -25,23 +25,27 @@ options_text options items =
     codes "options " ++ decimal options
     ++ codes "\nitems " ++ decimal items ++ codes " of " ++ decimal MOST_ENTRIES ++ codes "\n"
 
--- The text says how many options the puzzle has and how many items these have, or that they have too many for a solve.
-abbrev pub CountsOptions : Task → (text : List ℕ) → Type 0
-CountsOptions puzzle text =
-    ((x : Compiled) × (x.puzzle ≡ puzzle) × IsCompiled x × (text ≡ options_text (length x.options) (entries_of x)))
+-- The text says how many options there are and how many items these have, and has a line for the work of a search.
+pub record TellsSize (x : Compiled) (text : List ℕ) : Type 0 where
+  pub work : List ℕ
+  pub guessed : IsWorkLine work
+  pub parts : text ≡ options_text (length x.options) (entries_of x) ++ work
+
+-- The text tells the size of the puzzle's search, or that there are too many options for a solve.
+abbrev pub TellsOptions : Task → (text : List ℕ) → Type 0
+TellsOptions puzzle text =
+    ((x : Compiled) × (x.puzzle ≡ puzzle) × IsCompiled x × TellsSize x text)
     ⊎ (HasTooManyEntries puzzle × (text ≡ codes "too many options\n"))
 
--- The text is the empty board of the puzzle, drawn, then facts of it, and an estimate.
+-- The text is the empty board of the puzzle, drawn, then facts of it, and what is told of its options.
 pub record IsBoardText (puzzle : Task) (text : List ℕ) : Type 0 where
   pub drawing : List ℕ
   pub drawn : IsDrawing (record { puzzle = puzzle; placed = empty_prefix puzzle }) None drawing
   pub facts : List ℕ
   pub told : IsFacts puzzle facts
   pub options : List ℕ
-  pub counted : CountsOptions puzzle options
-  pub estimate : List ℕ
-  pub is_estimate : IsEstimateLine estimate
-  pub parts : text ≡ drawing ++ (facts ++ (options ++ estimate))
+  pub counted : TellsOptions puzzle options
+  pub parts : text ≡ drawing ++ (facts ++ options)
 
 -- The text has lines of symmetries of the puzzle, as a certificate of version 2 has them: at most `MOST_SYMMETRIES`
 -- lines, each within its limits, and spelled as there.

@@ -16,6 +16,8 @@ use Rattle.find_search.specs.declared.faults.FindFault.{FindFault}
 use Rattle.find_search.specs.declared.faults.FindFault.TheVariants as finds
 use Rattle.show_pictures.specs.declared.plans.NotDrawn.{NotDrawn}
 use Rattle.show_pictures.specs.declared.plans.NotDrawn.TheVariants as not_drawn
+use Rattle.puzzle_maker.specs.declared.faults.MakeFault.{MakeFault}
+use Rattle.puzzle_maker.specs.declared.faults.MakeFault.TheVariants as makes
 use Rattle.solver.specs.declared.faults.SolveFault.{SolveFault}
 use Rattle.solver.specs.declared.faults.SolveFault.TheVariants as solves
 use Rattle.xcc_form.specs.declared.faults.CompileFault.{CompileFault}
@@ -33,11 +35,12 @@ use Rattle.count_totals.specs.FaultText.{parts_fault_text}
 use Rattle.count_totals.specs.declared.faults.PartsFault.{PartsFault}
 use Rattle.count_totals.specs.declared.faults.PartsFault.TheVariants as parts_text
 use Rattle.cert_text.specs.FaultText.{cert_text_fault_text}
+use Rattle.puzzle_maker.specs.FaultText.{make_fault_text}
 use Rattle.solver.specs.FaultText.{solve_fault_text}
 use Rattle.symmetry_orbits.specs.FaultText.{expand_fault_text}
 use Rattle.command_runs.specs.declared.faults.RunFault.{RunFault}
 use Rattle.command_runs.specs.declared.faults.RunFault.TheVariants.{Read, TooLong, Puzzle, List as Listing, Certificate, Parts, NoArrangement, Arrangement}
-use Rattle.command_runs.specs.declared.faults.RunFault.TheVariants.{Solve, Refused, Expand, Tiles, Write, Replaced, Memory}
+use Rattle.command_runs.specs.declared.faults.RunFault.TheVariants.{Solve, Make, Refused, Expand, Tiles, Write, Replaced, Memory}
 
 -- ---- faults of parts, and want of memory, wherever it was met
 
@@ -74,6 +77,12 @@ run_of_solve solves.GaveUp = Solve solves.GaveUp
 run_of_solve solves.TooMany = Solve solves.TooMany
 run_of_solve solves.Full = Solve solves.Full
 run_of_solve solves.Memory = Memory
+
+abbrev pub run_of_make : MakeFault → RunFault
+run_of_make (makes.Misfit misfit) = Make (makes.Misfit misfit)
+run_of_make makes.GaveUp = Make makes.GaveUp
+run_of_make makes.TooMany = Make makes.TooMany
+run_of_make makes.Memory = Memory
 
 abbrev pub run_of_compile : CompileFault → RunFault
 run_of_compile compiles.TooMany = Solve solves.TooMany
@@ -116,6 +125,7 @@ run_fault_text (NoArrangement number) = codes "list: no arrangement " ++ decimal
 run_fault_text (Arrangement number fault) =
     codes "list: arrangement " ++ decimal number ++ codes ": " ++ arrangement_fault_text fault
 run_fault_text (Solve fault) = solve_fault_text fault
+run_fault_text (Make fault) = make_fault_text fault
 run_fault_text Refused = codes "the check refuses what was found"
 run_fault_text Expand = expand_fault_text expansions.TooMany
 run_fault_text Tiles = tiles_fault_text tile_lists.TooMany

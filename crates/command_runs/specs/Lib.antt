@@ -3,6 +3,7 @@ pub mod Checking
 pub mod Describing
 pub mod FaultText
 pub mod Finding
+pub mod Generating
 pub mod Listed
 pub mod Pages
 pub mod Pictures

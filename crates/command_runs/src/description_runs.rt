@@ -6,8 +6,8 @@ ghost use Rattle.byte_streams.specs.Moves.{reading_of, writing_of};
 ghost use Rattle.byte_streams.specs.Origins.{one_source};
 ghost use Rattle.byte_streams.specs.Targets.{one_sink};
 ghost use Rattle.byte_streams.specs.declared.faults.Document.TheVariants as documents;
-ghost use Rattle.command_runs.specs.Describing.{CountsOptions, Describes, IsBoardText, IsNoFaultText, IsSymmetriesText};
-ghost use Rattle.command_runs.specs.Describing.{DescribeFails, options_text};
+ghost use Rattle.command_runs.specs.Describing.{Describes, DescribeFails, IsBoardText, IsNoFaultText, IsSymmetriesText};
+ghost use Rattle.command_runs.specs.Describing.{TellsOptions, TellsSize, options_text};
 ghost use Rattle.command_runs.specs.Runs.{MadeOf, Runs, unhinted};
 
 use crate::faults::RunFault;
@@ -15,22 +15,23 @@ use crate::hints::{HintedFault, hint_on, with_hint};
 use crate::running::run_by;
 use byte_streams::{Document, MadeText, OneSink, OneSource, Sink, Source, Text};
 use cert_text::write_symmetries;
+use count_search::work_of;
 use match_limits::MOST_ENTRIES;
 use match_puzzle::{Partial, Puzzle};
 use match_symmetry::suggest;
 use match_text::read_puzzle;
 use show_pictures::write_puzzle_picture;
 use show_reasons::write_reasons;
-use show_text::{write_drawing, write_estimate, write_facts};
+use show_text::{write_drawing, write_facts, write_work};
 use std::alloc::{AllocError, Global};
-use xcc_form::{CompileFault, compile};
+use xcc_form::{CompileFault, Xcc, compile};
 
 /// What is written about a puzzle.
 #[derive(Clone, Copy)]
 pub enum Description {
     /// A drawing of its empty board, with the numbers of its cells and the colours that the border and clues ask for.
     /// Below it: how many cells, tiles and colours there are, where each colour occurs, how many options a search has,
-    /// and an estimate of how many arrangements there are.
+    /// and a guess of how many nodes it meets.
     Board,
     /// A picture of its empty board, with the colours that the border and clues ask for, and of each tile.
     Picture,
@@ -98,10 +99,8 @@ fn board_text(alloc: Global, puzzle: &Puzzle) -> Result<Vec<u8>, AllocError>
     let mut text = write_drawing(alloc, &partial, None)?;
     let facts = write_facts(alloc, puzzle)?;
     let options = write_options(alloc, puzzle)?;
-    let estimate = write_estimate(alloc, puzzle)?;
     text.extend_from_slice(&facts)?;
     text.extend_from_slice(&options)?;
-    text.extend_from_slice(&estimate)?;
     Ok(text)
 }
 
@@ -115,15 +114,26 @@ fn no_fault_text(alloc: Global, puzzle: &Puzzle) -> Result<Vec<u8>, AllocError>
     Ok(text)
 }
 
-// How many options the puzzle has, and how many items these have, or that they are too many for a solve.
+// How many options the puzzle has, how many items these have, and what work a search is; or that there are too many.
 fn write_options(alloc: Global, puzzle: &Puzzle) -> Result<Vec<u8>, AllocError>
-    ensures { IfOk result (λ text. CountsOptions puzzle.now text.items) }
+    ensures { IfOk result (λ text. TellsOptions puzzle.now text.items) }
 {
     match compile(alloc, puzzle) {
-        Ok(xcc) => option_lines(alloc, xcc.options(), xcc.entries()),
+        Ok(xcc) => size_text(alloc, &xcc),
         Err(CompileFault::TooMany) => Vec::from_slice(alloc, b"too many options\n"),
         Err(CompileFault::Memory) => Err(AllocError),
     }
+}
+
+// How many options there are, how many items these have, and how many nodes a search of them all is guessed to meet.
+fn size_text(alloc: Global, xcc: &Xcc<'_>) -> Result<Vec<u8>, AllocError>
+    ensures { IfOk result (λ text. TellsSize xcc.now text.items) }
+{
+    let mut text = option_lines(alloc, xcc.options(), xcc.entries())?;
+    let nodes = work_of(alloc, xcc)?;
+    let work = write_work(alloc, nodes)?;
+    text.extend_from_slice(&work)?;
+    Ok(text)
 }
 
 fn option_lines(alloc: Global, options: u32, items: u32) -> Result<Vec<u8>, AllocError>

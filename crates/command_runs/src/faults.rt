@@ -4,7 +4,7 @@ ghost use Rattle.std.specs.Prelude.{◌≡◌, Some, IfOk};
 ghost use Rattle.command_runs.specs.FaultText.{run_fault_text, fault_line};
 ghost use Rattle.command_runs.specs.declared.faults.RunFault.TheVariants as run_fault;
 ghost use Rattle.command_runs.specs.FaultText.{run_of_file, run_of_input, run_of_puzzle, run_of_list, run_of_certificate};
-ghost use Rattle.command_runs.specs.FaultText.{run_of_compile, run_of_expand, run_of_find, run_of_parts, run_of_picture, run_of_solve, run_of_tiles};
+ghost use Rattle.command_runs.specs.FaultText.{run_of_compile, run_of_expand, run_of_find, run_of_make, run_of_parts, run_of_picture, run_of_solve, run_of_tiles};
 
 use byte_streams::{Document, Failed, FileFault, InputFault};
 use cert_text::CertTextFault;
@@ -15,6 +15,7 @@ use match_board::TilesFault;
 use match_puzzle::{ArrangementFault, PuzzleFault};
 use match_report::ExpandFault;
 use match_text::{ListTextFault, PuzzleTextFault};
+use puzzle_maker::MakeFault;
 use show_pictures::NotDrawn;
 use solver::SolveFault;
 use std::alloc::{AllocError, Global};
@@ -40,6 +41,8 @@ pub enum RunFault {
     Arrangement(u32, ArrangementFault),
     /// The puzzle was not solved.
     Solve(SolveFault),
+    /// No puzzle was made.
+    Make(MakeFault),
     /// The list of a solve is refused by the check of it.
     Refused,
     /// The symmetries reach more arrangements than may be listed.
@@ -78,6 +81,7 @@ impl fmt::Display for RunFault {
                 "list: arrangement {number}: {fault}"
             ),
             RunFault::Solve(fault) => write!(f, "{fault}"),
+            RunFault::Make(fault) => write!(f, "{fault}"),
             RunFault::Refused => f.write_str("the check refuses what was found"),
             RunFault::Expand => write!(f, "{}", ExpandFault::TooMany),
             RunFault::Tiles => write!(f, "{}", TilesFault::TooMany),
@@ -171,6 +175,17 @@ impl From<SolveFault> for RunFault {
         match fault {
             SolveFault::Memory => RunFault::Memory,
             fault => RunFault::Solve(fault),
+        }
+    }
+}
+
+impl From<MakeFault> for RunFault {
+    ghost from_gives = { λ fault e. e ≡ run_of_make fault };
+
+    fn from(fault: MakeFault) -> RunFault {
+        match fault {
+            MakeFault::Memory => RunFault::Memory,
+            fault => RunFault::Make(fault),
         }
     }
 }

@@ -1,5 +1,5 @@
-//! Runs of the program's orders, from bytes to bytes: checks, explanations, expansions, counts, solves, boards,
-//! pictures, symmetries and lists of tiles. And the texts that tell of faults.
+//! Runs of the program's orders, from bytes to bytes: checks, explanations, expansions, counts, solves, puzzles that are
+//! made, boards, pictures, symmetries and lists of tiles. And the texts that tell of faults.
 #![tactic(auto)]
 
 mod advice;
@@ -8,6 +8,7 @@ mod check_runs;
 mod description_runs;
 mod faults;
 mod find_runs;
+mod generate_runs;
 mod hints;
 mod laws;
 mod listed_runs;
@@ -31,6 +32,7 @@ pub use check_runs::{CheckPlan, run_check, run_check_watched, run_joined};
 pub use description_runs::{Description, run_description};
 pub use faults::{RunFault, fault_text};
 pub use find_runs::{FindPlan, run_find};
+pub use generate_runs::{run_generate, run_generate_like};
 pub use hints::HintedFault;
 pub use laws::totals_count_all;
 pub use listed_runs::run_listed;

@@ -127,6 +127,53 @@ total_needed rows m = needed (codes "total") rows m refl
 pub total_file : (rows : List Row) → AreMatchesOf (codes "total") rows → HasText (codes "FILE") rows
 total_file rows m = has_text (command_at (codes "total")) rows (codes "FILE") (total_needed rows m) refl
 
+-- ---- `generate`
+
+generate_needed : (rows : List Row) → AreMatchesOf (codes "generate") rows → HasNeeded (command_at (codes "generate")) rows
+generate_needed rows m = needed (codes "generate") rows m refl
+
+generate_passing : (rows : List Row) → AreMatchesOf (codes "generate") rows → HasPassing (command_at (codes "generate")) rows
+generate_passing rows m = passing (codes "generate") rows m refl
+
+pub generate_size : (rows : List Row) → AreMatchesOf (codes "generate") rows → MayHaveNumber (codes "SIZE") 1 100 rows
+generate_size rows m = may_have_number (command_at (codes "generate")) rows (rule_at (command_at (codes "generate")) 1) 1 100 (generate_passing rows m) refl refl
+
+pub generate_height : (rows : List Row) → AreMatchesOf (codes "generate") rows → MayHaveNumber (codes "HEIGHT") 1 100 rows
+generate_height rows m = may_have_number (command_at (codes "generate")) rows (rule_at (command_at (codes "generate")) 2) 1 100 (generate_passing rows m) refl refl
+
+pub generate_colours : (rows : List Row) → AreMatchesOf (codes "generate") rows → HasNumber (codes "colours") 1 36 rows
+generate_colours rows m = has_number (command_at (codes "generate")) rows (rule_at (command_at (codes "generate")) 4) 1 36 (generate_needed rows m) refl refl refl
+
+pub generate_mates : (rows : List Row) → AreMatchesOf (codes "generate") rows → HasFlag (codes "mates") rows
+generate_mates rows m = has_flag (command_at (codes "generate")) rows (rule_at (command_at (codes "generate")) 7) (generate_needed rows m) refl refl refl
+
+pub generate_spare : (rows : List Row) → AreMatchesOf (codes "generate") rows → HasNumber (codes "spare") 0 256 rows
+generate_spare rows m = has_number (command_at (codes "generate")) rows (rule_at (command_at (codes "generate")) 8) 0 256 (generate_needed rows m) refl refl refl
+
+pub generate_clues : (rows : List Row) → AreMatchesOf (codes "generate") rows → HasNumber (codes "clues") 0 256 rows
+generate_clues rows m = has_number (command_at (codes "generate")) rows (rule_at (command_at (codes "generate")) 9) 0 256 (generate_needed rows m) refl refl refl
+
+pub generate_different : (rows : List Row) → AreMatchesOf (codes "generate") rows → HasFlag (codes "different") rows
+generate_different rows m = has_flag (command_at (codes "generate")) rows (rule_at (command_at (codes "generate")) 10) (generate_needed rows m) refl refl refl
+
+pub generate_unique : (rows : List Row) → AreMatchesOf (codes "generate") rows → HasFlag (codes "unique") rows
+generate_unique rows m = has_flag (command_at (codes "generate")) rows (rule_at (command_at (codes "generate")) 11) (generate_needed rows m) refl refl refl
+
+pub generate_tries : (rows : List Row) → AreMatchesOf (codes "generate") rows → HasNumber (codes "tries") 1 1000000 rows
+generate_tries rows m = has_number (command_at (codes "generate")) rows (rule_at (command_at (codes "generate")) 12) 1 1000000 (generate_needed rows m) refl refl refl
+
+pub generate_hardest : (rows : List Row) → AreMatchesOf (codes "generate") rows → MayHaveNumber (codes "hardest") 1 1000 rows
+generate_hardest rows m = may_have_number (command_at (codes "generate")) rows (rule_at (command_at (codes "generate")) 13) 1 1000 (generate_passing rows m) refl refl
+
+pub generate_easiest : (rows : List Row) → AreMatchesOf (codes "generate") rows → MayHaveNumber (codes "easiest") 1 1000 rows
+generate_easiest rows m = may_have_number (command_at (codes "generate")) rows (rule_at (command_at (codes "generate")) 14) 1 1000 (generate_passing rows m) refl refl
+
+pub generate_seed : (rows : List Row) → AreMatchesOf (codes "generate") rows → HasNumber (codes "seed") 0 18446744073709551615 rows
+generate_seed rows m = has_number (command_at (codes "generate")) rows (rule_at (command_at (codes "generate")) 15) 0 18446744073709551615 (generate_needed rows m) refl refl refl
+
+pub generate_progress : (rows : List Row) → AreMatchesOf (codes "generate") rows → HasFlag (codes "progress") rows
+generate_progress rows m = has_flag (command_at (codes "generate")) rows (rule_at (command_at (codes "generate")) 16) (generate_needed rows m) refl refl refl
+
 -- ---- `show`
 
 show_needed : (rows : List Row) → AreMatchesOf (codes "show") rows → HasNeeded (command_at (codes "show")) rows

@@ -1,5 +1,6 @@
 pub mod BuildingLemmas
 pub mod CommandLemmas
+pub mod DraftLemmas
 pub mod ExtentLemmas
 pub mod FaultlessWalk
 pub mod MisfitLemmas

@@ -4,7 +4,7 @@ use Rattle.std.specs.Str.{bytes_eq}
 use Rattle.std.proofs.lemmas.Slice.Eq.{bytes_eq-Decides}
 use Rattle.clap.specs.Words.{Row, Text, first_of}
 use Rattle.command_words.specs.Asked.{AreAskedFor, IsAsked, MayStandAt}
-use Rattle.command_words.specs.Orders.{ArePlaces, AreWritable, AskFor, AskForOrbits, IsExtent, IsFlagged, IsGiven, IsMisfit, IsOrderOf, IsPlace, IsSubject, NameFiles, NamesPuzzle, TellsOfMisfit}
+use Rattle.command_words.specs.Orders.{ArePlaces, AreWantedRules, AreWritable, AskFor, AskForOrbits, IsDraft, IsExtent, IsFlagged, IsGiven, IsMisfit, IsOrderOf, IsPlace, IsSubject, NameFiles, NamesPuzzle, TellsOfMisfit}
 use Rattle.command_words.specs.Places.{AreTwoOnInput}
 use Rattle.command_words.specs.declared.faults.WordsFault.{WordsFault}
 use Rattle.command_words.specs.declared.faults.WordsFault.TheVariants.{Words, Memory}
@@ -13,6 +13,8 @@ use Rattle.command_words.specs.declared.orders.Extent.TheVariants as extents
 use Rattle.command_words.specs.declared.orders.Order.{Order}
 use Rattle.command_words.specs.declared.orders.Order.TheVariants as orders
 use Rattle.command_words.specs.declared.orders.Subject.{Subject}
+use Rattle.command_words.specs.declared.orders.WantedRules.{WantedRules}
+use Rattle.puzzle_drafts.specs.declared.drafts.Draft.{Draft}
 use Rattle.command_words.specs.declared.orders.Subject.TheVariants.{Board, Listed}
 use Rattle.command_words.specs.declared.places.Files.{Files}
 use Rattle.command_words.specs.declared.places.Given.{Given}
@@ -48,6 +50,7 @@ no_count rows listed searched (orders.Page order) is = differ (codes "count") (c
 no_count rows listed searched (orders.Count given) is = listed given is.1 is.2
 no_count rows listed searched (orders.Census order) is = searched order.puzzle order.extent is.1 is.2
 no_count rows listed searched (orders.Total parts) is = differ (codes "count") (codes "total") refl is.0
+no_count rows listed searched (orders.Generate order) is = differ (codes "count") (codes "generate") refl is.0
 no_count rows listed searched (orders.Show subject) is = differ (codes "count") (codes "show") refl is.0
 no_count rows listed searched (orders.Draw order) is = differ (codes "count") (codes "draw") refl is.0
 no_count rows listed searched (orders.DrawAll order) is = differ (codes "count") (codes "draw") refl is.0
@@ -68,6 +71,7 @@ no_solve rows none (orders.Page order) is = differ (codes "solve") (codes "page"
 no_solve rows none (orders.Count given) is = differ (codes "solve") (codes "count") refl is.0
 no_solve rows none (orders.Census order) is = differ (codes "solve") (codes "count") refl is.0
 no_solve rows none (orders.Total parts) is = differ (codes "solve") (codes "total") refl is.0
+no_solve rows none (orders.Generate order) is = differ (codes "solve") (codes "generate") refl is.0
 no_solve rows none (orders.Show subject) is = differ (codes "solve") (codes "show") refl is.0
 no_solve rows none (orders.Draw order) is = differ (codes "solve") (codes "draw") refl is.0
 no_solve rows none (orders.DrawAll order) is = differ (codes "solve") (codes "draw") refl is.0
@@ -85,7 +89,7 @@ not_writable rows files named not = no_solve rows (λ other symmetries names wri
 pub not_suggested : (rows : List Row) → ((symmetries : Suggested) → AskFor rows symmetries → ⊥) → (order : Order) → IsOrderOf (Some (codes "solve", rows)) order → ⊥
 not_suggested rows none = no_solve rows (λ files symmetries names writable asked. none symmetries asked)
 
--- none where no orbits are asked for, nor the want of them
+-- none of a find that doesn't say by which orbits it goes
 pub no_find : (rows : List Row) → ((orbits : Option Suggested) → AskForOrbits rows orbits → ⊥) → (order : Order) → IsOrderOf (Some (codes "find", rows)) order → ⊥
 no_find rows none orders.Joined is = is
 no_find rows none (orders.Check order) is = differ (codes "find") (codes "check") refl is.0
@@ -98,14 +102,35 @@ no_find rows none (orders.Page order) is = differ (codes "find") (codes "page") 
 no_find rows none (orders.Count given) is = differ (codes "find") (codes "count") refl is.0
 no_find rows none (orders.Census order) is = differ (codes "find") (codes "count") refl is.0
 no_find rows none (orders.Total parts) is = differ (codes "find") (codes "total") refl is.0
+no_find rows none (orders.Generate order) is = differ (codes "find") (codes "generate") refl is.0
 no_find rows none (orders.Show subject) is = differ (codes "find") (codes "show") refl is.0
 no_find rows none (orders.Draw order) is = differ (codes "find") (codes "draw") refl is.0
 no_find rows none (orders.DrawAll order) is = differ (codes "find") (codes "draw") refl is.0
 no_find rows none (orders.Symmetries puzzle) is = differ (codes "find") (codes "symmetries") refl is.0
 no_find rows none (orders.Tiles order) is = differ (codes "find") (codes "tiles") refl is.0
 
+-- none where no rules and draft go together
+pub no_generate : (rows : List Row) → ((rules : WantedRules) (draft : Draft) → AreWantedRules rows rules → IsDraft rows draft → ⊥) → (order : Order) → IsOrderOf (Some (codes "generate", rows)) order → ⊥
+no_generate rows none orders.Joined is = is
+no_generate rows none (orders.Check order) is = differ (codes "generate") (codes "check") refl is.0
+no_generate rows none (orders.Explain given) is = differ (codes "generate") (codes "explain") refl is.0
+no_generate rows none (orders.ExplainPuzzle puzzle) is = differ (codes "generate") (codes "explain") refl is.0
+no_generate rows none (orders.Find order) is = differ (codes "generate") (codes "find") refl is.0
+no_generate rows none (orders.Solve order) is = differ (codes "generate") (codes "solve") refl is.0
+no_generate rows none (orders.Expand order) is = differ (codes "generate") (codes "expand") refl is.0
+no_generate rows none (orders.Page order) is = differ (codes "generate") (codes "page") refl is.0
+no_generate rows none (orders.Count given) is = differ (codes "generate") (codes "count") refl is.0
+no_generate rows none (orders.Census order) is = differ (codes "generate") (codes "count") refl is.0
+no_generate rows none (orders.Total parts) is = differ (codes "generate") (codes "total") refl is.0
+no_generate rows none (orders.Generate order) is = none order.rules order.draft is.1 is.2
+no_generate rows none (orders.Show subject) is = differ (codes "generate") (codes "show") refl is.0
+no_generate rows none (orders.Draw order) is = differ (codes "generate") (codes "draw") refl is.0
+no_generate rows none (orders.DrawAll order) is = differ (codes "generate") (codes "draw") refl is.0
+no_generate rows none (orders.Symmetries puzzle) is = differ (codes "generate") (codes "symmetries") refl is.0
+no_generate rows none (orders.Tiles order) is = differ (codes "generate") (codes "tiles") refl is.0
+
 -- a flag isn't both given and left out
-flagged_once : (rows : List Row) (id : Text) → IsFlagged id rows true → IsFlagged id rows false → ⊥
+pub flagged_once : (rows : List Row) (id : Text) → IsFlagged id rows true → IsFlagged id rows false → ⊥
 flagged_once rows id given left_out = differ (codes "true") (codes "false") refl (some_is (sym given ∙ left_out))
 
 -- orbits by a word that names no symmetries

@@ -79,6 +79,7 @@ no_total rows nowhere (orders.Page order) is = differ (codes "total") (codes "pa
 no_total rows nowhere (orders.Count given) is = differ (codes "total") (codes "count") refl is.0
 no_total rows nowhere (orders.Census order) is = differ (codes "total") (codes "count") refl is.0
 no_total rows nowhere (orders.Total places) is = nowhere places is.1
+no_total rows nowhere (orders.Generate order) is = differ (codes "total") (codes "generate") refl is.0
 no_total rows nowhere (orders.Show subject) is = differ (codes "total") (codes "show") refl is.0
 no_total rows nowhere (orders.Draw order) is = differ (codes "total") (codes "draw") refl is.0
 no_total rows nowhere (orders.DrawAll order) is = differ (codes "total") (codes "draw") refl is.0

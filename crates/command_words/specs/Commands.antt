@@ -1,6 +1,6 @@
 -- The program's commands, as `clap` reads them.
 use Rattle.std.specs.Prelude.{◌≡◌, ℕ, List, true, false, [], ◌∷◌, Some, codes, fold}
-use Rattle.match_limits.specs.declared.TheConstants.{LAST_ARRANGEMENT, MOST_ARRANGEMENTS, MOST_COLOURS, MOST_DEPTH, MOST_FORKS, MOST_FUEL, MOST_WORKERS}
+use Rattle.match_limits.specs.declared.TheConstants.{LAST_ARRANGEMENT, MOST_ARRANGEMENTS, MOST_COLOURS, MOST_DEPTH, MOST_FORKS, MOST_FUEL, MOST_LENGTH, MOST_TILES, MOST_WORKERS}
 use Rattle.clap.specs.Words.{App, Rule, Text, new_app, new_rule, with_rule, with_subcommand}
 use Rattle.clap.specs.Simple.{on_top}
 use Rattle.clap.specs.declared.builder.action.ArgAction.TheVariants.{Append, SetTrue}
@@ -43,9 +43,17 @@ optional_text id = record (new_rule id) { long = Some id; value_names = 1 }
 abbrev pub text_or_default : Text → Text → Rule
 text_or_default id default = record (optional_text id) { defaults = default ∷ [] }
 
--- a number of 64 bits behind an option of this name
-abbrev pub optional_bound : Text → Rule
-optional_bound id = record (optional_text id) { parser = Some (parsers.Unsigned 0 18446744073709551615) }
+-- a number from `least` to `most`, which need not be given
+abbrev pub any_number : Text → ℕ → ℕ → Rule
+any_number id least most = record (new_rule id) { parser = Some (parsers.Unsigned least most) }
+
+-- a number from `least` to `most` behind an option of this name, which need not be given
+abbrev pub number_if_given : Text → ℕ → ℕ → Rule
+number_if_given id least most = record (optional_text id) { parser = Some (parsers.Unsigned least most) }
+
+-- a number from `least` to `most` behind an option of this name, which a command needs
+abbrev pub wanted_option : Text → ℕ → ℕ → Rule
+wanted_option id least most = record (number_if_given id least most) { required = true }
 
 -- a flag of this name
 abbrev pub flag : Text → Rule
@@ -118,13 +126,35 @@ abbrev pub count_app : App
 count_app =
     with_rules (with_places (new_app (codes "count")))
     (optional_number (codes "workers") 1 MOST_WORKERS (codes "1")
-    ∷ optional_bound (codes "most")
+    ∷ number_if_given (codes "most") 0 18446744073709551615
     ∷ optional_text (codes "part")
     ∷ flag (codes "progress")
     ∷ [])
 
 abbrev pub total_app : App
 total_app = with_rule (new_app (codes "total")) (wanted_words (codes "FILE"))
+
+abbrev pub generate_app : App
+generate_app =
+    with_rules (new_app (codes "generate"))
+    (new_rule (codes "KIND")
+    ∷ any_number (codes "SIZE") 1 MOST_LENGTH
+    ∷ any_number (codes "HEIGHT") 1 MOST_LENGTH
+    ∷ optional_text (codes "like")
+    ∷ wanted_option (codes "colours") 1 MOST_COLOURS
+    ∷ optional_text (codes "border")
+    ∷ optional_text (codes "turns")
+    ∷ flag (codes "mates")
+    ∷ optional_number (codes "spare") 0 MOST_TILES (codes "0")
+    ∷ optional_number (codes "clues") 0 MOST_TILES (codes "0")
+    ∷ flag (codes "different")
+    ∷ flag (codes "unique")
+    ∷ optional_number (codes "tries") 1 1000000 (codes "100")
+    ∷ number_if_given (codes "hardest") 1 1000
+    ∷ number_if_given (codes "easiest") 1 1000
+    ∷ wanted_option (codes "seed") 0 18446744073709551615
+    ∷ flag (codes "progress")
+    ∷ [])
 
 abbrev pub show_app : App
 show_app =
@@ -160,6 +190,7 @@ commands =
     ∷ page_app
     ∷ count_app
     ∷ total_app
+    ∷ generate_app
     ∷ show_app
     ∷ draw_app
     ∷ symmetries_app

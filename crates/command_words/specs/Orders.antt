@@ -12,15 +12,25 @@ use Rattle.command_words.specs.declared.faults.WordsFault.{WordsFault}
 use Rattle.command_words.specs.declared.faults.WordsFault.TheVariants.{Words, Memory}
 use Rattle.command_words.specs.declared.orders.Extent.{Extent}
 use Rattle.command_words.specs.declared.orders.Extent.TheVariants as extents
+use Rattle.command_words.specs.declared.orders.WantedRules.{WantedRules}
+use Rattle.command_words.specs.declared.orders.WantedRules.TheVariants as wanted
 use Rattle.command_words.specs.declared.places.Files.{Files}
 use Rattle.command_words.specs.declared.orders.Subject.{Subject}
 use Rattle.command_words.specs.declared.orders.Subject.TheVariants.{Board, Listed}
 use Rattle.command_words.specs.declared.orders.Order.{Order}
-use Rattle.command_words.specs.declared.orders.Order.TheVariants.{Joined, Check, Explain, ExplainPuzzle, Find, Solve, Expand, Page, Count, Census, Total, Show, Draw, DrawAll, Symmetries, Tiles}
+use Rattle.command_words.specs.declared.orders.Order.TheVariants.{Joined, Check, Explain, ExplainPuzzle, Find, Solve, Expand, Page, Count, Census, Total, Generate, Show, Draw, DrawAll, Symmetries, Tiles}
 use Rattle.command_words.specs.Commands.{whole_app}
 use Rattle.command_words.specs.Parts.{IsPartsText}
 use Rattle.match_symmetry.specs.declared.choices.Suggested.{Suggested}
 use Rattle.match_symmetry.specs.declared.choices.Suggested.TheVariants as suggested
+use Rattle.puzzle_drafts.specs.declared.drafts.BorderKind.{BorderKind}
+use Rattle.puzzle_drafts.specs.declared.drafts.BorderKind.TheVariants.{Frame, One, Free, Each}
+use Rattle.puzzle_drafts.specs.declared.drafts.Choice.{Choice}
+use Rattle.puzzle_drafts.specs.declared.drafts.Choice.TheVariants.{First, Hardest, Easiest}
+use Rattle.puzzle_drafts.specs.declared.drafts.Draft.{Draft}
+use Rattle.puzzle_drafts.specs.declared.drafts.PlainBoard.{PlainBoard}
+use Rattle.puzzle_drafts.specs.declared.drafts.PlainBoard.TheVariants.{Rectangle, Triangle, Hexagon}
+use Rattle.puzzle_drafts.specs.declared.drafts.PlainRules.{PlainRules}
 use Rattle.command_words.specs.Places.{input_name}
 use Rattle.command_words.specs.declared.places.Given.{Given}
 use Rattle.command_words.specs.declared.places.Given.TheVariants.{Apart}
@@ -151,13 +161,85 @@ word_for suggested.OfBoard = codes "board"
 abbrev pub AskFor : List Row → Suggested → Type 0
 AskFor rows symmetries = first_of (codes "symmetries") rows ≡ Some (word_for symmetries)
 
--- Whose orbits the matches of `find` ask for: without `--orbits` no symmetry's, and with it those of the symmetries that are
--- named, which are the board's where none are.
+-- The symmetries by whose orbits the matches of `find` go: without `--orbits` none, and with it those that are named, which
+-- are the board's where none are.
 abbrev pub AskForOrbits : List Row → Option Suggested → Type 0
 AskForOrbits rows None = IsFlagged (codes "orbits") rows false × (first_of (codes "symmetries") rows ≡ None)
 AskForOrbits rows (Some symmetries) =
     IsFlagged (codes "orbits") rows true
     × (AskFor rows symmetries ⊎ ((first_of (codes "symmetries") rows ≡ None) × (symmetries ≡ suggested.OfBoard)))
+
+-- which board the matches of `generate` name
+abbrev pub IsBoardAsked : List Row → PlainBoard → Type 0
+IsBoardAsked rows (Rectangle width height) =
+    (first_of (codes "KIND") rows ≡ Some (codes "rect")) × (number_of (codes "SIZE") rows ≡ Some width)
+    × (number_of (codes "HEIGHT") rows ≡ Some height)
+IsBoardAsked rows (Triangle size) =
+    (first_of (codes "KIND") rows ≡ Some (codes "triangle")) × (number_of (codes "SIZE") rows ≡ Some size)
+    × (first_of (codes "HEIGHT") rows ≡ None)
+IsBoardAsked rows (Hexagon size) =
+    (first_of (codes "KIND") rows ≡ Some (codes "hexagon")) × (number_of (codes "SIZE") rows ≡ Some size)
+    × (first_of (codes "HEIGHT") rows ≡ None)
+
+-- the word behind `--border` that asks for this
+abbrev pub border_word : BorderKind → Text
+border_word Frame = codes "frame"
+border_word One = codes "one"
+border_word Free = codes "free"
+border_word Each = codes "each"
+
+-- what the matches ask of the border, a frame where they say nothing
+abbrev pub IsBorderAsked : List Row → BorderKind → Type 0
+IsBorderAsked rows border =
+    (first_of (codes "border") rows ≡ Some (border_word border))
+    ⊎ ((first_of (codes "border") rows ≡ None) × (border ≡ Frame))
+
+-- whether tiles may be turned by the matches, which they may where these say nothing
+abbrev pub AreTurnsAsked : List Row → Bool → Type 0
+AreTurnsAsked rows true = (first_of (codes "turns") rows ≡ Some (codes "yes")) ⊎ (first_of (codes "turns") rows ≡ None)
+AreTurnsAsked rows false = first_of (codes "turns") rows ≡ Some (codes "no")
+
+-- the rules that the matches of `generate` ask for
+pub record ArePlainRules (rows : List Row) (rules : PlainRules) : Type 0 where
+  pub board : IsBoardAsked rows rules.board
+  pub border : IsBorderAsked rows rules.border
+  pub turns : AreTurnsAsked rows rules.turns
+  pub mates : IsFlagged (codes "mates") rows rules.mates
+
+-- the matches of `generate` ask for no rules
+pub record AskForNoRules (rows : List Row) : Type 0 where
+  pub no_kind : first_of (codes "KIND") rows ≡ None
+  pub no_size : first_of (codes "SIZE") rows ≡ None
+  pub no_height : first_of (codes "HEIGHT") rows ≡ None
+  pub no_border : first_of (codes "border") rows ≡ None
+  pub no_turns : first_of (codes "turns") rows ≡ None
+  pub no_mates : IsFlagged (codes "mates") rows false
+
+-- the rules of the puzzle that is to be made: those that the matches ask for, or those of another puzzle
+abbrev pub AreWantedRules : List Row → WantedRules → Type 0
+AreWantedRules rows (wanted.Plain rules) = (first_of (codes "like") rows ≡ None) × ArePlainRules rows rules
+AreWantedRules rows (wanted.Like puzzle) = IsPlace (codes "like") rows puzzle × AskForNoRules rows
+
+-- which of the puzzles that will do is taken; one is only chosen of those that are to be unique
+abbrev pub IsChoice : List Row → Choice → Type 0
+IsChoice rows First = (first_of (codes "hardest") rows ≡ None) × (first_of (codes "easiest") rows ≡ None)
+IsChoice rows (Hardest of) =
+    (number_of (codes "hardest") rows ≡ Some of) × (first_of (codes "easiest") rows ≡ None)
+    × IsFlagged (codes "unique") rows true
+IsChoice rows (Easiest of) =
+    (first_of (codes "hardest") rows ≡ None) × (number_of (codes "easiest") rows ≡ Some of)
+    × IsFlagged (codes "unique") rows true
+
+-- what the matches of `generate` ask of tiles and arrangements
+pub record IsDraft (rows : List Row) (draft : Draft) : Type 0 where
+  pub colours : number_of (codes "colours") rows ≡ Some draft.colours
+  pub spare : number_of (codes "spare") rows ≡ Some draft.spare
+  pub clues : number_of (codes "clues") rows ≡ Some draft.clues
+  pub different : IsFlagged (codes "different") rows draft.is_different
+  pub unique : IsFlagged (codes "unique") rows draft.is_unique
+  pub tries : number_of (codes "tries") rows ≡ Some draft.tries
+  pub choice : IsChoice rows draft.choice
+  pub seed : number_of (codes "seed") rows ≡ Some draft.seed
 
 -- The command and its matches give the order.
 abbrev pub IsOrderOf : Option (Text × List Row) → Order → Type 0
@@ -189,6 +271,9 @@ IsOrderOf (Some (name, rows)) (Census order) =
     (name ≡ codes "count") × NamesPuzzle rows order.puzzle × IsExtent rows order.extent
     × (number_of (codes "workers") rows ≡ Some order.workers) × IsFlagged (codes "progress") rows order.progress
 IsOrderOf (Some (name, rows)) (Total parts) = (name ≡ codes "total") × AreNamedParts (values_of (codes "FILE") rows) parts
+IsOrderOf (Some (name, rows)) (Generate order) =
+    (name ≡ codes "generate") × AreWantedRules rows order.rules × IsDraft rows order.draft
+    × IsFlagged (codes "progress") rows order.progress
 IsOrderOf (Some (name, rows)) (Show subject) = (name ≡ codes "show") × IsSubject rows subject
 IsOrderOf (Some (name, rows)) (Draw order) =
     (name ≡ codes "draw") × IsSubject rows order.subject × (first_of (codes "all") rows ≡ None)

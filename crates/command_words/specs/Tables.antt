@@ -17,6 +17,7 @@ use Rattle.command_words.specs.declared.commands.Number.{Number}
 abbrev pub of_kind : Kind → Text → Rule → Rule
 of_kind (kinds.Word is_wanted) id rule = record rule { required = is_wanted }
 of_kind kinds.Words id rule = record rule { required = true; action = Some Append }
+of_kind (kinds.WantedOption value) id rule = record rule { required = true; long = Some id; value_names = 1 }
 of_kind (kinds.Option value) id rule = record rule { long = Some id; value_names = 1 }
 of_kind (kinds.TextOption value default) id rule =
     record rule { long = Some id; value_names = 1; defaults = default.now ∷ [] }

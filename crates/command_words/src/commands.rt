@@ -2,7 +2,7 @@
 
 ghost use Rattle.std.specs.Prelude.{◌≡◌, ◌∷◌, [], IfOk};
 ghost use Rattle.clap.specs.Words.{App, app_of, with_subcommand};
-ghost use Rattle.command_words.specs.Commands.{bare_app, check_app, count_app, draw_app, expand_app, explain_app, find_app};
+ghost use Rattle.command_words.specs.Commands.{bare_app, check_app, count_app, draw_app, expand_app, explain_app, find_app, generate_app};
 ghost use Rattle.command_words.specs.Commands.{page_app, show_app, solve_app, symmetries_app, tiles_app, total_app};
 ghost use Rattle.command_words.specs.Commands.{whole_app, with_commands};
 ghost use Rattle.command_words.specs.Tables.{IsArgOf, IsCommandAs, IsNumbered, IsOfKind, app_by};
@@ -12,7 +12,7 @@ use clap::builder::ValueParser;
 use clap::{Arg, ArgAction, Command};
 use match_limits::{
     LAST_ARRANGEMENT, MOST_ARRANGEMENTS, MOST_COLOURS, MOST_DEPTH, MOST_DRAWN, MOST_FORKS,
-    MOST_FUEL, MOST_SIDES, MOST_WORKERS,
+    MOST_FUEL, MOST_LENGTH, MOST_SIDES, MOST_TILES, MOST_WORKERS,
 };
 use std::alloc::{AllocError, Global};
 
@@ -30,6 +30,10 @@ enum Kind {
     },
     // By one word or more at its place, each of which is a value.
     Words,
+    // By an option with its name, followed by one value, that the command needs. Help names the value in this way.
+    WantedOption {
+        value: &'static str,
+    },
     // By an option with its name, followed by the value. Help names the value in this way.
     Option {
         value: &'static str,
@@ -238,6 +242,155 @@ const SEED: Argument = Argument {
         default: Some("1975"),
     }),
     help: "What the random numbers begin with, a number below 2^64",
+};
+
+const KIND: Argument = Argument {
+    id: "KIND",
+    kind: Kind::Word { is_wanted: false },
+    number: None,
+    help: "The board: rect, triangle or hexagon",
+};
+
+const LENGTH: Number = Number {
+    least: 1,
+    most: MOST_LENGTH as u64,
+    default: None,
+};
+
+const SIZE: Argument = Argument {
+    id: "SIZE",
+    kind: Kind::Word { is_wanted: false },
+    number: Some(LENGTH),
+    help: "The width of a rectangle, or how many cells stand at each side of a triangle or a hexagon",
+};
+
+const HEIGHT: Argument = Argument {
+    id: "HEIGHT",
+    kind: Kind::Word { is_wanted: false },
+    number: Some(LENGTH),
+    help: "The height of a rectangle",
+};
+
+const LIKE: Argument = Argument {
+    id: "like",
+    kind: Kind::Option { value: "PUZZLE" },
+    number: None,
+    help: "Takes the board, the border, turns and mates from the file of this puzzle",
+};
+
+const DRAWN_COLOURS: Argument = Argument {
+    id: "colours",
+    kind: Kind::WantedOption { value: "Q" },
+    number: Some(Number {
+        least: 1,
+        most: MOST_COLOURS as u64,
+        default: None,
+    }),
+    help: "How many colours there are, 1 to 36; that of a frame is one of them",
+};
+
+const BORDER: Argument = Argument {
+    id: "border",
+    kind: Kind::Option { value: "BORDER" },
+    number: None,
+    help: "What outer sides show: frame, the default, one, free or each",
+};
+
+const TURNS: Argument = Argument {
+    id: "turns",
+    kind: Kind::Option { value: "ANSWER" },
+    number: None,
+    help: "Whether tiles may be turned: yes, the default, or no",
+};
+
+const MATES: Argument = Argument {
+    id: "mates",
+    kind: Kind::Flag,
+    number: None,
+    help: "Colours meet in pairs, as heads and tails do",
+};
+
+const MORE_TILES: Number = Number {
+    least: 0,
+    most: MOST_TILES as u64,
+    default: Some("0"),
+};
+
+const SPARE: Argument = Argument {
+    id: "spare",
+    kind: Kind::Option { value: "K" },
+    number: Some(MORE_TILES),
+    help: "How many tiles are left over, 0 to 256",
+};
+
+const CLUES: Argument = Argument {
+    id: "clues",
+    kind: Kind::Option { value: "K" },
+    number: Some(MORE_TILES),
+    help: "How many cells have a clue, 0 to 256",
+};
+
+const DIFFERENT: Argument = Argument {
+    id: "different",
+    kind: Kind::Flag,
+    number: None,
+    help: "No two tiles are equal, and each looks different after every turn",
+};
+
+const UNIQUE: Argument = Argument {
+    id: "unique",
+    kind: Kind::Flag,
+    number: None,
+    help: "There is just one arrangement, up to turns of the whole board",
+};
+
+const TRIES: Argument = Argument {
+    id: "tries",
+    kind: Kind::Option { value: "T" },
+    number: Some(Number {
+        least: 1,
+        most: 1_000_000,
+        default: Some("100"),
+    }),
+    help: "How many puzzles are drawn at most until one will do, 1 to 1000000",
+};
+
+const CHOSEN: Number = Number {
+    least: 1,
+    most: 1_000,
+    default: None,
+};
+
+const HARDEST: Argument = Argument {
+    id: "hardest",
+    kind: Kind::Option { value: "T" },
+    number: Some(CHOSEN),
+    help: "Takes of T puzzles with just one arrangement the one with the most work, 1 to 1000",
+};
+
+const EASIEST: Argument = Argument {
+    id: "easiest",
+    kind: Kind::Option { value: "T" },
+    number: Some(CHOSEN),
+    help: "Takes of T puzzles with just one arrangement the one with the least work, 1 to 1000",
+};
+
+const WANTED_SEED: Argument = Argument {
+    id: "seed",
+    kind: Kind::WantedOption { value: "N" },
+    number: Some(Number {
+        least: 0,
+        most: u64::MAX,
+        default: None,
+    }),
+    help: "What the random numbers begin with, a number below 2^64",
+};
+
+const DRAWING_PROGRESS: Argument = Argument {
+    id: "progress",
+    kind: Kind::Flag,
+    number: None,
+    help: "Says on standard error, at most once a second, which puzzle won't do, and why",
 };
 
 const TITLE: Argument = Argument {
@@ -458,6 +611,31 @@ const TOTAL: CommandTable = CommandTable {
     help: helps::TOTAL,
 };
 
+const GENERATE: CommandTable = CommandTable {
+    name: "generate",
+    about: "Makes a puzzle that has an arrangement, or just one, and prints its text",
+    arguments: &[
+        KIND,
+        SIZE,
+        HEIGHT,
+        LIKE,
+        DRAWN_COLOURS,
+        BORDER,
+        TURNS,
+        MATES,
+        SPARE,
+        CLUES,
+        DIFFERENT,
+        UNIQUE,
+        TRIES,
+        HARDEST,
+        EASIEST,
+        WANTED_SEED,
+        DRAWING_PROGRESS,
+    ],
+    help: helps::GENERATE,
+};
+
 const SHOW: CommandTable = CommandTable {
     name: "show",
     about: "Draws a puzzle's board, and counts its colours",
@@ -493,6 +671,7 @@ fn with_kind<'a>(arg: Arg<'a>, id: &'a str, kind: Kind) -> Arg<'a>
     match kind {
         Kind::Word { is_wanted } => arg.required(is_wanted),
         Kind::Words => arg.required(true).action(ArgAction::Append),
+        Kind::WantedOption { value } => arg.required(true).long(id).value_name(value),
         Kind::Option { value } => arg.long(id).value_name(value),
         Kind::TextOption { value, default } => {
             arg.long(id).value_name(value).default_value(default)
@@ -599,6 +778,12 @@ pub(crate) fn total<'a>(alloc: Global) -> Result<Command<'a>, AllocError>
     command_of(alloc, &TOTAL)
 }
 
+pub(crate) fn generate<'a>(alloc: Global) -> Result<Command<'a>, AllocError>
+    ensures { IfOk result (IsCommandAs generate_app) }
+{
+    command_of(alloc, &GENERATE)
+}
+
 pub(crate) fn show<'a>(alloc: Global) -> Result<Command<'a>, AllocError>
     ensures { IfOk result (IsCommandAs show_app) }
 {
@@ -661,8 +846,9 @@ fn with_puzzle_commands<'a>(
     program: Result<Command<'a>, AllocError>,
 ) -> Result<Command<'a>, AllocError>
     ensures { (before : App) → IfOk program.entry (λ c. app_of c ≡ before)
-        → IfOk result (λ c. app_of c ≡ with_commands before (show_app ∷ draw_app ∷ symmetries_app ∷ tiles_app ∷ [])) }
+        → IfOk result (λ c. app_of c ≡ with_commands before (generate_app ∷ show_app ∷ draw_app ∷ symmetries_app ∷ tiles_app ∷ [])) }
 {
+    let program = with_command(program, generate(alloc));
     let program = with_command(program, show(alloc));
     let program = with_command(program, draw(alloc));
     let program = with_command(program, symmetries(alloc));

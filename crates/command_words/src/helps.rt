@@ -10,7 +10,7 @@ Exit status:
   0  done; for a check, the list is complete
   1  the certificate does not show that the list is complete
   2  anything else; standard error says what
-  3  find, solve and count: it gave up, or the puzzle is too large; standard error says which
+  3  find, generate, solve and count: it gave up, or the puzzle is too large; standard error says which
 
 Example:
   cat puzzle list certificate | edgematch";
@@ -93,7 +93,7 @@ list, and with several it may be another each time.
 Exit status:
   0  the list is printed, also where it has no arrangement
   2  anything else; standard error says what
-  3  too many options, or with --orbits too many expanded; standard error says which
+  3  too many options
 
 Examples:
   edgematch find puzzle | edgematch draw puzzle - > picture.svg
@@ -216,6 +216,43 @@ Exit status:
 
 Example:
   edgematch total part.*";
+
+pub(crate) const GENERATE: &str = "\
+Prints the text of a puzzle that has an arrangement. It draws one at random, with Q colours, and cuts it into \
+tiles. Then it shuffles the tiles and turns each at random. One seed always gives the same puzzle.
+
+The board is rect WIDTH HEIGHT, triangle SIZE or hexagon SIZE, and has at most 100 cells. With --like PUZZLE \
+in its place the board, which may be a shape, the border, turns and mates are those of that puzzle. Only the \
+tiles are new. PUZZLE may be -, which is standard input.
+
+With --border frame, the default, outer sides show colour 0, inner sides never do, and the puzzle asks for \
+colour 0 all round. With one, inner sides may show colour 0 too. With free, outer sides show any colours, and \
+nothing is asked of them. With each, they show any colours, and the puzzle asks each side for its own.
+
+With --mates colours meet in pairs: 0 and 1, 2 and 3, and so on. With --border frame or one, colour 0 is its \
+own mate, and the pairs are 1 and 2, 3 and 4, and so on.
+
+With --unique the puzzle has one arrangement, and no other but those that come of it by turning the whole \
+board: there are at most 4 on a square, 2 on another rectangle, 3 on a triangle and 6 on a hexagon. With \
+--turns no, --border each or --clues there is just one. It counts the arrangements of each puzzle that it \
+draws, and draws another where there are more. After --tries puzzles that won't do it says gave up. Then more \
+colours help, or clues, or another seed. On a large board a count may take long: more colours make it shorter.
+
+With --clues K it adds clues for K cells of the board: each asks for all that the drawn arrangement shows \
+there. It takes the cells whose clues leave the fewest other arrangements. So a puzzle of few colours can have \
+just one.
+
+With --hardest T it prints, of T puzzles that have just one arrangement, the one with the most work. Work is a \
+guess of how many steps a plain search takes; show prints it too. --easiest takes the one with the least.
+
+Exit status:
+  0  the puzzle is printed
+  2  anything else; standard error says what
+  3  gave up, or too many options; standard error says which
+
+Examples:
+  edgematch generate rect 6 6 --colours 8 --different --unique --seed 1 > puzzle
+  edgematch generate --like heart --colours 8 --unique --seed 1 > puzzle";
 
 pub(crate) const SHOW: &str = "\
 Draws the board with the numbers of its cells and the colours that the border and clues ask for. Says how \

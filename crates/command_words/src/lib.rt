@@ -2,6 +2,7 @@
 #![tactic(auto)]
 
 mod commands;
+mod draft_words;
 mod faults;
 mod helps;
 mod orders;
@@ -10,8 +11,9 @@ mod readings;
 
 pub use faults::WordsFault;
 pub use orders::{
-    CensusOrder, CheckOrder, DrawAllOrder, DrawOrder, ExpandOrder, Extent, FindOrder, MostFound,
-    Order, PageOrder, Parts, SolveOrder, Subject, TilesOrder,
+    CensusOrder, CheckOrder, ChosenFrom, DrawAllOrder, DrawOrder, ExpandOrder, Extent, FindOrder,
+    GenerateOrder, MostFound, Order, PageOrder, Parts, SolveOrder, Subject, TilesOrder, Tries,
+    WantedRules,
 };
 pub use places::{Files, Given, PartPlaces, Place, Places, TwoPlaces};
 pub use readings::order;

@@ -6,6 +6,7 @@ use match_limits::{
     Within, Workers,
 };
 use match_symmetry::Suggested;
+use puzzle_drafts::{Draft, PlainRules};
 
 /// One or more consecutive parts of a search that is divided into parts: how many parts come before the first of them,
 /// how many more there are of them, and how many come after the last.
@@ -81,10 +82,10 @@ pub struct CheckOrder {
     pub hints: bool,
 }
 
-/// How many arrangements are asked for at most: as many as a list may have.
+/// How many arrangements a search is asked for at most.
 pub type MostFound = Within<1, 1_000_000>;
 
-// A type's bounds can't name the limit, so they have its digits.
+// As many as a list may have. A type's bounds can't name the limit, so they have its digits.
 const _: () = prove!(MOST_ARRANGEMENTS == 1_000_000);
 
 /// A search for some arrangements of the puzzle at a place. It prints their list.
@@ -93,8 +94,8 @@ pub struct FindOrder {
     pub puzzle: Place,
     /// How many arrangements it prints at most.
     pub first: MostFound,
-    /// Which symmetries are looked for, of which none takes a printed arrangement to another; `None` where arrangements
-    /// only have to be different.
+    /// The symmetries of which none may take a printed arrangement to another; `None` where these only have to be
+    /// different.
     pub orbits: Option<Suggested>,
     /// What the random numbers of the first worker begin with.
     pub seed: u64,
@@ -150,6 +151,30 @@ pub struct CensusOrder {
     pub extent: Extent,
     pub workers: Workers,
     /// Whether it says meanwhile how far it is.
+    pub progress: bool,
+}
+
+/// The rules of a puzzle that is to be made.
+#[derive(Drop)]
+pub enum WantedRules {
+    /// These.
+    Plain(PlainRules),
+    /// The board, the turns, the border and the mates of the puzzle at this place.
+    Like(Place),
+}
+
+/// How many puzzles are asked for of which the hardest or the easiest is taken.
+pub type ChosenFrom = Within<1, 1_000>;
+
+/// How many candidates are tried at most.
+pub type Tries = Within<1, 1_000_000>;
+
+/// A puzzle that is to be made. It prints its text.
+#[derive(Drop)]
+pub struct GenerateOrder {
+    pub rules: WantedRules,
+    pub draft: Draft,
+    /// Whether it says meanwhile which candidates won't do.
     pub progress: bool,
 }
 
@@ -212,6 +237,8 @@ pub enum Order {
     Census(CensusOrder),
     /// Add up the counts of all parts of a search, by the lines at these places.
     Total(PartPlaces),
+    /// Make a puzzle, and print its text.
+    Generate(GenerateOrder),
     /// Draw the empty board of a puzzle, or a listed arrangement, as text.
     Show(Subject),
     /// Draw a puzzle, or listed arrangements, as a picture.

@@ -23,6 +23,7 @@ use crate::commands::{
     explain as explain_command, find as find_command, page as page_command, program,
     show as show_command, solve as solve_command, total as total_command,
 };
+use crate::draft_words::generate;
 use crate::faults::WordsFault;
 use crate::orders::{
     CensusOrder, CheckOrder, DrawAllOrder, DrawOrder, ExpandOrder, Extent, FindOrder, Order,
@@ -76,7 +77,7 @@ fn text(alloc: Global, matches: &ArgMatches<'_>, id: &str) -> Result<String, All
 }
 
 // The number with this id.
-fn number<const LEAST: u32, const MOST: u32>(
+pub(crate) fn number<const LEAST: u32, const MOST: u32>(
     matches: &ArgMatches<'_>,
     id: &str,
 ) -> Within<LEAST, MOST>
@@ -92,8 +93,8 @@ fn number<const LEAST: u32, const MOST: u32>(
     Within::new(number)
 }
 
-// The number with this id, which may have 64 bits.
-fn seed(matches: &ArgMatches<'_>) -> u64
+// What the random numbers of a search or of a drawing begin with.
+pub(crate) fn seed(matches: &ArgMatches<'_>) -> u64
     requires { HasNumber (codes "seed") 0 18446744073709551615 (rows_of (found_of matches.now)) }
     ensures { number_of (codes "seed") (rows_of (found_of matches.now)) ≡ Some result }
 {
@@ -104,7 +105,7 @@ fn seed(matches: &ArgMatches<'_>) -> u64
 }
 
 // Whether the flag with this id is given.
-fn flag(matches: &ArgMatches<'_>, id: &str) -> bool
+pub(crate) fn flag(matches: &ArgMatches<'_>, id: &str) -> bool
     requires { HasFlag id.now (rows_of (found_of matches.now)) }
     ensures { IsFlagged id.now (rows_of (found_of matches.now)) result }
 {
@@ -136,7 +137,7 @@ fn are_writable(files: &Files) -> bool
 }
 
 // Where the document is that this id names, if it names one.
-fn place_if_named(
+pub(crate) fn place_if_named(
     alloc: Global,
     matches: &ArgMatches<'_>,
     id: &str,
@@ -237,7 +238,11 @@ fn read_subject(alloc: Global, matches: &ArgMatches<'_>) -> Result<Option<Subjec
 }
 
 // The error for words of this command that don't go together.
-fn misfit(command: Result<Command<'_>, AllocError>, name: &str, reason: &str) -> WordsFault
+pub(crate) fn misfit(
+    command: Result<Command<'_>, AllocError>,
+    name: &str,
+    reason: &str,
+) -> WordsFault
     ensures { TellsOfMisfit result }
 {
     match misfit_error(command, name, reason) {
@@ -294,8 +299,8 @@ fn suggested(matches: &ArgMatches<'_>) -> Option<Suggested>
     }
 }
 
-// Whose orbits the matches of `find` ask for: those of these symmetries, or of none. An `Err` says why the words don't
-// go together.
+// The symmetries by whose orbits the matches of `find` go, if they go by orbits. An `Err` says why the words don't go
+// together.
 fn orbits(matches: &ArgMatches<'_>) -> Result<Option<Suggested>, &'static str>
     requires { HasFlag (codes "orbits") (rows_of (found_of matches.now)) }
     ensures asked { IfOk result (AskForOrbits (rows_of (found_of matches.now))) }
@@ -678,6 +683,7 @@ fn tiles(matches: &ArgMatches<'_>) -> Order
 /// - `count` has three documents together with options of a search
 /// - `solve` or `find` asks for symmetries by a word other than the two
 /// - `find` asks for symmetries and not for orbits
+/// - `generate` names no board, both a board and a puzzle to take it from, or is asked to choose of what needn't be unique
 /// - `draw` has a certificate and no list
 /// - two documents are to be read from standard input
 pub fn order(alloc: Global, words: &[String]) -> Result<Order, WordsFault>
@@ -709,6 +715,7 @@ fn order_of(alloc: Global, name: &str, matches: &ArgMatches<'_>) -> Result<Order
         "page" => page(alloc, matches),
         "count" => count(alloc, matches),
         "total" => total(alloc, matches),
+        "generate" => generate(alloc, matches),
         "show" => show(alloc, matches),
         "draw" => draw(alloc, matches),
         "symmetries" => symmetries(alloc, matches),

@@ -6,11 +6,26 @@ ghost use Rattle.std.specs.Prelude.{◌≡◌};
 
 use rand_core::{Rng, SeedableRng};
 use rand_xoshiro::Xoshiro256PlusPlus;
-use std::alloc::AllocError;
-use xcc_form::{OpenOptions, option_behind};
+use std::alloc::{AllocError, Global};
+use xcc_dance::OpenSets;
+use xcc_form::{OpenOptions, Xcc, option_behind};
 
 // The seed of the random numbers. It is always the same, so that each call makes the same split.
 const SEED: u64 = 1975;
+
+// How many dives from the root guess the work of a whole search.
+const DIVES_FROM_ROOT: u64 = 256;
+
+/// A guess of how many nodes a search for all arrangements has that branches on the item with the fewest open options:
+/// the mean of 256 dives (random walks to a leaf) from the root. A mean is at most 2^64 / 256, about 7.2e16, and a
+/// greater guess is this number too.
+///
+/// Different calls guess the same for a puzzle, but no contract says so, nor how good a guess is. An error comes where
+/// memory is refused.
+pub fn work_of(alloc: Global, xcc: &Xcc<'_>) -> Result<u64, AllocError> {
+    let mut engine = OpenSets::new(alloc, xcc)?;
+    Dives::new(xcc.cells()).mean(&mut engine, DIVES_FROM_ROOT)
+}
 
 // What dives are made with.
 #[derive(Drop)]

@@ -20,6 +20,7 @@ mod weights;
 pub use branches::Branch;
 pub use counting::count_below;
 pub use crews::{Count, count_with_crew};
+pub use dives::work_of;
 pub use hashes::hash_of;
 pub use laws::{
     extensions_are_found, options_that_show_alike_have_as_many, parts_make_the_whole,

@@ -11,7 +11,7 @@ use std::alloc::Global;
 use std::sync::atomic::{AtomicBool, Ordering};
 use symmetry_orbits::RandomFold;
 
-// A pass looks so often whether a worker is done: each time after so many nodes.
+// After so many nodes each time a pass tells of itself, and looks whether a worker is done.
 const NODES_BETWEEN_LOOKS: u64 = 1024;
 
 /// What a search goes by. All its workers share it.
@@ -52,8 +52,14 @@ impl<'a, 's, 'w, W: FindWatch> Search<'a, 's, 'w, W> {
             Some(fuel) => listed == 0 && progress.nodes > fuel,
             None => false,
         };
-        if is_out || (progress.nodes % NODES_BETWEEN_LOOKS == 0 && self.is_over()) {
+        if is_out {
             return Some(Ended::Spent);
+        }
+        if progress.nodes % NODES_BETWEEN_LOOKS == 0 {
+            self.find.watch.goes_on();
+            if self.is_over() {
+                return Some(Ended::Spent);
+            }
         }
         None
     }

@@ -6,6 +6,9 @@ pub trait FindWatch {
     /// where the pass has no bound.
     fn begins(&self, fuel: Option<u64>);
 
+    /// Is called from time to time while a pass goes on: each 1,024 nodes.
+    fn goes_on(&self);
+
     /// Is called when a worker has found one more arrangement, with how many it has found in this pass.
     fn found(&self, arrangements: usize);
 }

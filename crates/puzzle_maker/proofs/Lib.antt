@@ -1,1 +1,5 @@
+pub mod BoardTurnLemmas
+pub mod FrameLemmas
+pub mod LikeLemmas
 mod MateLemmas
+pub mod PlanLemmas

@@ -2,7 +2,7 @@
 use Rattle.std.proofs.Common.{◌≡◌, ◌<◌, ◌+◌, ◌*◌, ◌++◌, ℕ, List, [], ◌∷◌, Some, length, slice_get, length-append, refl, ap, sym, ◌∙◌, subst, arith, ⊎_elim}
 use Rattle.std.proofs.lemmas.Bool.Decides.{eqb_tells}
 use Rattle.match_limits.proofs.ListLemmas.{kept_left}
-use Rattle.puzzle_maker.specs.Drafts.{ArePairs}
+use Rattle.puzzle_drafts.specs.Drafts.{ArePairs}
 
 -- what stands at the end
 pushed_last : (xs : List ℕ) (z : ℕ) → slice_get (xs ++ z ∷ []) (length xs) ≡ Some z

@@ -1,3 +1,6 @@
-pub mod Drafts
+pub mod BoardTurns
+pub mod FaultText
+pub mod Like
 pub mod Made
+pub mod Plans
 pub mod Refusals

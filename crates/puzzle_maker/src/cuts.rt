@@ -1,6 +1,6 @@
 //! Cuts a drawn arrangement up: its tiles are shuffled and turned.
 
-ghost use Rattle.std.specs.Prelude.{◌≡◌, ◌<◌, ◌≤◌, IfOk, IfSome, vec_len};
+ghost use Rattle.std.specs.Prelude.{◌≤◌, IfOk, vec_len};
 ghost use Rattle.match_limits.specs.declared.TheConstants.{MOST_RULES, MOST_TILES};
 
 use crate::draws::{Drawing, Word, turned};
@@ -14,6 +14,8 @@ pub(crate) struct Cut {
     pub(crate) tiles: Vec<Tile>,
     pub(crate) planted: Vec<Placement>,
     pub(crate) outer_sides: Vec<u8>,
+    ghost few_tiles: { vec_len tiles ≤ MOST_TILES },
+    ghost few_outer: { vec_len outer_sides ≤ MOST_RULES },
 }
 
 // A tile before it is turned: its place, and what it shows there.
@@ -28,10 +30,7 @@ const NOTHING: Placement = Placement { tile: 0, turn: 0 };
 
 impl Drawing<'_> {
     /// Cuts the drawing up; `None` where it shows what is no colour, which doesn't happen.
-    pub(crate) fn cut(&mut self, alloc: Global) -> Result<Option<Cut>, AllocError>
-        ensures tiles { IfOk result (λ made. IfSome made (λ cut. vec_len cut.tiles ≤ MOST_TILES)) }
-        ensures outer { IfOk result (λ made. IfSome made (λ cut. vec_len cut.outer_sides ≤ MOST_RULES)) }
-    {
+    pub(crate) fn cut(&mut self, alloc: Global) -> Result<Option<Cut>, AllocError> {
         let outer_sides = self.outer_sides(alloc)?;
         let pieces = self.shuffled(alloc)?;
         let cells = usize::from(self.plan.board.cells());
@@ -75,7 +74,7 @@ impl Drawing<'_> {
     // A tile with this word, turned at random if it may be; and how often it has to be turned to show the word.
     fn turn(&mut self, word: Word) -> Option<(Tile, u8)> {
         let sides = self.plan.board.sides();
-        let turns = if self.plan.draft.turns {
+        let turns = if self.plan.turns {
             self.dice.below(u16::from(sides)) as u8
         } else {
             0

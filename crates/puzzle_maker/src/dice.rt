@@ -28,12 +28,12 @@ impl Dice {
         (self.random.next_u32() % u32::from(count)) as u16
     }
 
-    /// A colour from `least` on, of so many colours.
-    pub(crate) fn colour(&mut self, least: u8, colours: u8) -> u8
-        requires { least < colours }
+    /// One of so many colours.
+    pub(crate) fn colour(&mut self, colours: u8) -> u8
+        requires { 0 < colours }
         ensures { result < colours }
     {
-        least + self.below(u16::from(colours - least)) as u8
+        self.below(u16::from(colours)) as u8
     }
 
     /// Puts up to 256 things in random order.

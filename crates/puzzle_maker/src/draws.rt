@@ -5,7 +5,6 @@ ghost use Rattle.match_limits.specs.declared.TheConstants.{MOST_COLOURS, MOST_RU
 ghost use Rattle.match_board.specs.Board.{cell_count, side_count};
 
 use crate::dice::Dice;
-use crate::drafts::BorderKind;
 use crate::plans::Plan;
 use match_limits::{MOST_TILES, SIDES};
 use std::alloc::{AllocError, Global};
@@ -78,7 +77,7 @@ impl<'p> Drawing<'p> {
     {
         match self.plan.board.meets(cell, side) {
             None => {
-                let colour = self.outer_colour();
+                let colour = self.outer_colour(cell, side);
                 self.words[usize::from(cell)][usize::from(side)] = colour;
             }
             Some((other, met)) => {
@@ -91,21 +90,21 @@ impl<'p> Drawing<'p> {
 
     // A colour for a side that meets another.
     fn inner_colour(&mut self) -> u8
-        ensures colour { result < MOST_COLOURS }
-        ensures same { self.new.plan ≡ self.old.plan }
-    {
-        let draft = &self.plan.draft;
-        self.dice.colour(draft.border.least_inside(), draft.colours)
-    }
-
-    // A colour for a side that meets nothing.
-    fn outer_colour(&mut self) -> u8
         ensures { self.new.plan ≡ self.old.plan }
     {
-        let draft = &self.plan.draft;
-        match draft.border {
-            BorderKind::Frame | BorderKind::One => 0,
-            BorderKind::Free | BorderKind::Each => self.dice.colour(0, draft.colours),
+        let inner = &self.plan.inner;
+        let place = self.dice.below(inner.len() as u16);
+        inner[usize::from(place)]
+    }
+
+    // A colour for a side that meets nothing: what the border asks for, or any.
+    fn outer_colour(&mut self, cell: u16, side: u8) -> u8
+        requires { side < 4 }
+        ensures { self.new.plan ≡ self.old.plan }
+    {
+        match self.plan.asked(cell, side) {
+            Some(colour) => colour,
+            None => self.dice.colour(self.plan.draft.colours),
         }
     }
 
@@ -123,7 +122,7 @@ impl<'p> Drawing<'p> {
         let cell = self.dice.below(self.plan.board.cells());
         for side in 0..self.plan.board.sides() {
             let colour = if self.plan.board.is_border(cell, side) {
-                self.outer_colour()
+                self.outer_colour(cell, side)
             } else {
                 self.inner_colour()
             };
@@ -188,7 +187,7 @@ impl<'p> Drawing<'p> {
         let word = self.words[usize::from(place)];
         let turned = turned(word, self.plan.board.sides(), turns);
         let earlier = &self.words[..usize::from(place)];
-        let is_earlier = (turns == 0 || draft.turns) && earlier.contains(&turned);
+        let is_earlier = (turns == 0 || self.plan.turns) && earlier.contains(&turned);
         let is_own = turns > 0 && draft.is_different && turned == word;
         is_earlier || is_own
     }

@@ -1,36 +1,41 @@
 //! Colours that are mates in pairs.
 
-ghost use Rattle.std.specs.Prelude.{◌≡◌, ◌<◌, ◌≤◌, ◌+◌, ◌*◌, ℕ, IfOk};
+ghost use Rattle.std.specs.Prelude.{◌≡◌, ◌<◌, ◌≤◌, ◌+◌, ◌*◌, ℕ, IfOk, vec_len};
 ghost use Rattle.match_limits.specs.declared.TheConstants.{MOST_COLOURS};
-ghost use Rattle.puzzle_maker.specs.Drafts.{AreMatesAsked, ArePairs};
+ghost use Rattle.puzzle_drafts.specs.Drafts.{AreMatesAsked, ArePairs};
+ghost use Rattle.puzzle_drafts.specs.declared.drafts.Draft.{Draft as AskedDraft};
 
-use crate::plans::Plan;
+use puzzle_drafts::PlainRules;
 use std::alloc::{AllocError, Global};
 
-impl Plan {
-    /// The mate of a colour.
-    pub(crate) fn mate(&self, colour: u8) -> u8
-        requires { colour < MOST_COLOURS }
-    {
-        let draft = &self.draft;
-        if draft.mates {
-            mate_beside(draft.border.unpaired_colours(), colour)
-        } else {
-            colour
-        }
+/// The list of mates of so many colours. It is empty where none are asked for.
+pub(crate) fn mates_of(
+    alloc: Global,
+    rules: &PlainRules,
+    colours: u8,
+) -> Result<Vec<u8>, AllocError>
+    requires { colours ≤ MOST_COLOURS }
+    ensures asked { IfOk result (λ v. (d : AskedDraft) → d.colours ≡ colours → AreMatesAsked rules.now d v.items) }
+    ensures few { IfOk result (λ v. vec_len v ≤ MOST_COLOURS) }
+{
+    if rules.mates {
+        pairs(alloc, rules.border.unpaired_colours(), colours)
+    } else {
+        Ok(Vec::new(alloc))
     }
+}
 
-    /// The list of mates. It is empty where none are asked for.
-    pub(crate) fn mates(&self, alloc: Global) -> Result<Vec<u8>, AllocError>
-        ensures { IfOk result (λ v. AreMatesAsked self.now.draft v.items) }
-    {
-        let draft = &self.draft;
-        if draft.mates {
-            pairs(alloc, draft.border.unpaired_colours(), draft.colours)
-        } else {
-            Ok(Vec::new(alloc))
-        }
+// The mates of so many colours, where those from `alone` on pair up.
+fn pairs(alloc: Global, alone: u8, colours: u8) -> Result<Vec<u8>, AllocError>
+    requires { colours ≤ MOST_COLOURS }
+    ensures pairs { IfOk result (λ v. ArePairs alone colours v.items) }
+    ensures few { IfOk result (λ v. vec_len v ≤ MOST_COLOURS) }
+{
+    let mut mates = Vec::new(alloc);
+    for colour in 0..colours {
+        mates.push(mate_beside(alone, colour))?;
     }
+    Ok(mates)
 }
 
 // The mate of a colour, where those from `alone` on pair up.
@@ -47,16 +52,4 @@ fn mate_beside(alone: u8, colour: u8) -> u8
     } else {
         colour - 1
     }
-}
-
-// The mates of so many colours, where those from `alone` on pair up.
-fn pairs(alloc: Global, alone: u8, colours: u8) -> Result<Vec<u8>, AllocError>
-    requires { colours ≤ MOST_COLOURS }
-    ensures { IfOk result (λ v. ArePairs alone colours v.items) }
-{
-    let mut mates = Vec::new(alloc);
-    for colour in 0..colours {
-        mates.push(mate_beside(alone, colour))?;
-    }
-    Ok(mates)
 }

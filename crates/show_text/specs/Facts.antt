@@ -91,7 +91,7 @@ pub record IsFacts (p : Task) (text : List ℕ) : Type 0 where
   pub counted : IsColourCount p colours
   pub written : text ≡ facts_text p (length outer) colours
 
--- The line `estimate N`. What it estimates is said nowhere here: it is no fact.
-pub record IsEstimateLine (line : List ℕ) : Type 0 where
+-- The line `work N`. What it guesses is said nowhere here: it is no fact.
+pub record IsWorkLine (line : List ℕ) : Type 0 where
   pub word : List ℕ
-  pub written : line ≡ codes "estimate " ++ (word ++ 10 ∷ [])
+  pub written : line ≡ codes "work " ++ (word ++ 10 ∷ [])

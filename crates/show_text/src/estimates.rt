@@ -1,86 +1,23 @@
 //! Estimates how many arrangements a puzzle has.
 
-ghost use Rattle.std.specs.Prelude.{◌<◌, IfOk};
+ghost use Rattle.std.specs.Prelude.{◌<◌};
 ghost use Rattle.match_board.specs.Board.{cell_count, side_count};
-ghost use Rattle.show_text.specs.Facts.{IsEstimateLine};
 
+use crate::rough_numbers::RoughNumber;
 use match_board::Tile;
 use match_limits::{MOST_COLOURS, MOST_SIDES};
 use match_puzzle::Puzzle;
 use std::alloc::{AllocError, Global};
 
-// The digits of an estimate are below this, and at least a tenth of it, or 0.
-const DIGITS_END: u64 = 1_000_000_000_000;
-// The most places before the point with which an estimate is written in full.
-const MOST_PLACES: i32 = 6;
-
-/// An estimate of how many arrangements a puzzle has.
+/// Estimates how many arrangements the puzzle has.
 ///
 /// It is the number of ways to lay tiles on all cells, times a chance for each shared edge and for each outer side:
 /// that they show what they have to, if the colour at each side of a tile were drawn by lot, each colour as often as
 /// tiles have it. Where tiles may not be turned, the lots are drawn for each side apart. The true number may be far
 /// from it, since the sides of a tile don't go their own ways.
-#[derive(Clone, Copy)]
-pub struct Estimate {
-    // 12 digits, or 0
-    digits: u64,
-    // how many places stand before the point
-    places: i32,
-}
-
-impl Estimate {
-    fn one() -> Estimate {
-        Estimate {
-            digits: DIGITS_END / 10,
-            places: 1,
-        }
-    }
-
-    // The estimate times `ways` and divided by `of`, where both are below 2^21.
-    fn times(self, ways: u32, of: u32) -> Estimate {
-        let mut digits = self.digits.saturating_mul(u64::from(ways)) / u64::from(of.max(1));
-        let mut places = self.places;
-        while digits >= DIGITS_END {
-            digits /= 10;
-            places = places.saturating_add(1);
-        }
-        while digits > 0 && digits < DIGITS_END / 10 {
-            digits *= 10;
-            places = places.saturating_sub(1);
-        }
-        Estimate { digits, places }
-    }
-
-    /// Whether it is more than a list may have, 1,000,000.
-    pub fn is_over_a_list(self) -> bool {
-        self.digits > 0 && self.places > MOST_PLACES
-    }
-
-    /// The number in full up to 999,999, and else with two digits, as `1.5e7`.
-    ///
-    /// An `Err` comes only where memory is refused.
-    pub fn to_text(self, alloc: Global) -> Result<String, AllocError> {
-        if self.digits == 0 {
-            return format!(in alloc; "0");
-        }
-        if self.places < 1 || self.places > MOST_PLACES {
-            let head = self.digits / (DIGITS_END / 10);
-            let tail = self.digits / (DIGITS_END / 100) % 10;
-            let power = self.places.saturating_sub(1);
-            return format!(in alloc; "{head}.{tail}e{power}");
-        }
-        let mut whole = self.digits;
-        for _ in self.places..12 {
-            whole /= 10;
-        }
-        format!(in alloc; "{whole}")
-    }
-}
-
-/// Estimates how many arrangements the puzzle has.
 ///
 /// An `Err` comes only where memory for a table of colours is refused. It asks what each side of each cell meets.
-pub fn estimate_of(alloc: Global, puzzle: &Puzzle) -> Result<Estimate, AllocError> {
+pub fn estimate_of(alloc: Global, puzzle: &Puzzle) -> Result<RoughNumber, AllocError> {
     let colours = SideColours::of(alloc, puzzle)?;
     let mut estimate = ways_to_lay(puzzle);
     for cell in 0..puzzle.board().cells() {
@@ -90,11 +27,11 @@ pub fn estimate_of(alloc: Global, puzzle: &Puzzle) -> Result<Estimate, AllocErro
 }
 
 // In how many ways tiles can be laid, whatever they show.
-fn ways_to_lay(puzzle: &Puzzle) -> Estimate {
+fn ways_to_lay(puzzle: &Puzzle) -> RoughNumber {
     if !puzzle.have_all_to_stand() {
         return ways_to_lay_some(puzzle);
     }
-    let mut ways = Estimate::one();
+    let mut ways = RoughNumber::of(1);
     let mut laid = 0u32;
     for tile in puzzle.tiles() {
         laid = laid.saturating_add(1);
@@ -105,10 +42,10 @@ fn ways_to_lay(puzzle: &Puzzle) -> Estimate {
 
 // In how many ways a tile for each cell can be laid, where there are more tiles; each has as many turns as tiles have
 // in the mean.
-fn ways_to_lay_some(puzzle: &Puzzle) -> Estimate {
+fn ways_to_lay_some(puzzle: &Puzzle) -> RoughNumber {
     let tiles = u32::from(puzzle.tile_count());
     let turns = turns_together(puzzle);
-    let mut ways = Estimate::one();
+    let mut ways = RoughNumber::of(1);
     for laid in 0..u32::from(puzzle.board().cells()) {
         ways = ways.times(tiles.saturating_sub(laid).saturating_mul(turns), tiles);
     }
@@ -134,7 +71,7 @@ fn turns_of(puzzle: &Puzzle, tile: &Tile) -> u32 {
 }
 
 // The estimate, times the chances of the cell's sides, of each shared edge at the lesser cell.
-fn with_sides(before: Estimate, puzzle: &Puzzle, colours: &SideColours, cell: u16) -> Estimate
+fn with_sides(before: RoughNumber, puzzle: &Puzzle, colours: &SideColours, cell: u16) -> RoughNumber
     requires { cell < cell_count puzzle.now.board }
 {
     let mut estimate = before;
@@ -146,12 +83,12 @@ fn with_sides(before: Estimate, puzzle: &Puzzle, colours: &SideColours, cell: u1
 
 // The estimate, times the chance of the side.
 fn with_side(
-    before: Estimate,
+    before: RoughNumber,
     puzzle: &Puzzle,
     colours: &SideColours,
     cell: u16,
     side: u8,
-) -> Estimate
+) -> RoughNumber
     requires cell { cell < cell_count puzzle.now.board }
     requires side { side < side_count puzzle.now.board }
 {
@@ -268,15 +205,4 @@ fn count_of(puzzle: &Puzzle, side: u8, colour: u8) -> u32 {
         }
     }
     count
-}
-
-/// The line `estimate N`, where N estimates how many arrangements the puzzle has.
-///
-/// An `Err` comes only where memory is refused.
-pub fn write_estimate(alloc: Global, puzzle: &Puzzle) -> Result<Vec<u8>, AllocError>
-    ensures { IfOk result (λ text. IsEstimateLine text.items) }
-{
-    let number = estimate_of(alloc, puzzle)?.to_text(alloc)?;
-    let line = format!(in alloc; "estimate {number}\n")?;
-    Ok(Vec::from(line))
 }

@@ -26,6 +26,9 @@ count-requires c = subst (λ name. AreMatchesOf name (rows_of (found_of c.args.m
 pub total-requires : goal.total-requires
 total-requires c = subst (λ name. AreMatchesOf name (rows_of (found_of c.args.matches.now))) c.in-total.is c.requires
 
+pub generate-requires : goal.generate-requires
+generate-requires c = subst (λ name. AreMatchesOf name (rows_of (found_of c.args.matches.now))) c.in-generate.is c.requires
+
 pub show-requires : goal.show-requires
 show-requires c = subst (λ name. AreMatchesOf name (rows_of (found_of c.args.matches.now))) c.in-show.is c.requires
 
@@ -113,6 +116,14 @@ pub returns-in-total-clause-refused : goal.returns-in-total-clause-refused
 returns-in-total-clause-refused c =
     subst (λ name. IfErr c.total.result (IsMisfit (Some (name, rows_of (found_of c.args.matches.now))))) (sym c.in-total.is) c.total.ensures.refused
 
+pub returns-in-generate-clause-order : goal.returns-in-generate-clause-order
+returns-in-generate-clause-order c =
+    subst (λ name. IfOk c.generate.result (IsOrderOf (Some (name, rows_of (found_of c.args.matches.now))))) (sym c.in-generate.is) c.generate.ensures.order
+
+pub returns-in-generate-clause-refused : goal.returns-in-generate-clause-refused
+returns-in-generate-clause-refused c =
+    subst (λ name. IfErr c.generate.result (IsMisfit (Some (name, rows_of (found_of c.args.matches.now))))) (sym c.in-generate.is) c.generate.ensures.refused
+
 pub returns-in-show-clause-order : goal.returns-in-show-clause-order
 returns-in-show-clause-order c =
     subst (λ name. IfOk c.show.result (IsOrderOf (Some (name, rows_of (found_of c.args.matches.now))))) (sym c.in-show.is) c.show.ensures.order
@@ -133,4 +144,4 @@ pub unreachable-requires : goal.unreachable-requires
 unreachable-requires c =
     let own = program_has c.requires.words c.requires.faultless c.args.name.now (rows_of (found_of c.args.matches.now)) c.requires.enters in
     let other : (name : Text) → c.args.name.now ≢ name → bytes_eq name c.args.name.now ≡ false = differs c.args.name.now in
-    none_is_some (rw (other (codes "check") c.in_default.not-check, other (codes "explain") c.in_default.not-explain, other (codes "find") c.in_default.not-find, other (codes "solve") c.in_default.not-solve, other (codes "expand") c.in_default.not-expand, other (codes "page") c.in_default.not-page, other (codes "count") c.in_default.not-count, other (codes "total") c.in_default.not-total, other (codes "show") c.in_default.not-show, other (codes "draw") c.in_default.not-draw, other (codes "symmetries") c.in_default.not-symmetries, other (codes "tiles") c.in_default.not-tiles, other (codes "help") own.no_help) at own.is_named)
+    none_is_some (rw (other (codes "check") c.in_default.not-check, other (codes "explain") c.in_default.not-explain, other (codes "find") c.in_default.not-find, other (codes "solve") c.in_default.not-solve, other (codes "expand") c.in_default.not-expand, other (codes "page") c.in_default.not-page, other (codes "count") c.in_default.not-count, other (codes "total") c.in_default.not-total, other (codes "generate") c.in_default.not-generate, other (codes "show") c.in_default.not-show, other (codes "draw") c.in_default.not-draw, other (codes "symmetries") c.in_default.not-symmetries, other (codes "tiles") c.in_default.not-tiles, other (codes "help") own.no_help) at own.is_named)

@@ -1,4 +1,4 @@
-use Rattle.puzzle_maker.specs.Drafts.{ArePairs}
+use Rattle.puzzle_drafts.specs.Drafts.{ArePairs}
 use Rattle.puzzle_maker.proofs.mates.pairs.Given as goal
 
 abbrev pub invariant-loop-colour : goal.invariant-loop-colour
