@@ -6,4 +6,5 @@ mod GrownLemmas
 mod SiteLemmas
 mod TileLemmas
 mod PictureLemmas
+mod CutLemmas
 mod LawLemmas

@@ -10,4 +10,5 @@ pub mod Grown
 pub mod Sites
 pub mod Pictures
 pub mod Listed
+pub mod Cuts
 pub mod Laws

@@ -1,4 +1,5 @@
-//! Puzzles and their arrangements as pictures: documents of Scalable Vector Graphics (SVG 1.1, W3C 2011).
+//! Puzzles and their arrangements as pictures: documents of Scalable Vector Graphics (SVG 1.1, W3C 2011). And pages with
+//! a puzzle's tiles to cut out: documents of HTML that have such pictures.
 #![tactic(auto)]
 
 mod arrows;
@@ -8,6 +9,10 @@ mod cells;
 mod clued_cells;
 mod clues;
 mod corners;
+mod cut_documents;
+mod cut_layouts;
+mod cut_pages;
+mod cut_plans;
 mod descriptions;
 mod documents;
 mod edges;
@@ -27,6 +32,8 @@ mod sites;
 mod tiles;
 mod trays;
 
+pub use cut_documents::{write_cut_pages, write_cut_pages_with};
+pub use cut_plans::{CutPlan, TileSize};
 pub use laws::picture_laws;
 pub use listed::write_listed_picture;
 pub use pictures::{write_arrangement_picture, write_puzzle_picture};

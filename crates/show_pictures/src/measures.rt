@@ -21,6 +21,14 @@ pub fn extent(form: Form) -> Offset {
     }
 }
 
+/// How far a knob reaches beyond the box round the form, at most.
+pub fn knob_reach(form: Form) -> u8 {
+    match form {
+        Form::Square => 12,
+        Form::Up | Form::Down => 8,
+    }
+}
+
 /// How large a tile's number is.
 #[derive(Clone, Copy)]
 pub struct NumberSize {

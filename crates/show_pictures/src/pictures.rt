@@ -107,8 +107,8 @@ pub fn draw_arrangement(
     Ok(text)
 }
 
-// The board with the arrangement.
-fn put_full_board(
+/// Writes the board with the arrangement.
+pub fn put_full_board(
     alloc: Global,
     text: &mut Vec<u8>,
     puzzle: &Puzzle,
@@ -256,8 +256,8 @@ fn put_below(
     Ok(())
 }
 
-// What is drawn on the tiles of a picture by itself, with numbers where they are wanted.
-fn lone_labels(puzzle: &Puzzle, numbers: bool) -> Labels {
+/// What is drawn on the tiles of a picture by itself, with numbers where they are wanted.
+pub fn lone_labels(puzzle: &Puzzle, numbers: bool) -> Labels {
     let numbers = if numbers {
         Some(size_beside_signs(puzzle.board().sides()))
     } else {
