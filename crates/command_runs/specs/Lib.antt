@@ -1,5 +1,6 @@
 pub mod Census
 pub mod Checking
+pub mod Cuts
 pub mod Describing
 pub mod FaultText
 pub mod Finding

@@ -1,10 +1,11 @@
 //! Runs of the program's orders, from bytes to bytes: checks, explanations, expansions, counts, solves, puzzles that are
-//! made, boards, pictures, symmetries and lists of tiles. And the texts that tell of faults.
+//! made, boards, pictures, tiles to cut out, symmetries and lists of tiles. And the texts that tell of faults.
 #![tactic(auto)]
 
 mod advice;
 mod census_runs;
 mod check_runs;
+mod cut_runs;
 mod description_runs;
 mod faults;
 mod find_runs;
@@ -29,6 +30,7 @@ pub use byte_streams::{
 };
 pub use census_runs::{CensusPlan, run_census};
 pub use check_runs::{CheckPlan, run_check, run_check_watched, run_joined};
+pub use cut_runs::{run_cut, run_cut_listed};
 pub use description_runs::{Description, run_description};
 pub use faults::{RunFault, fault_text};
 pub use find_runs::{FindPlan, run_find};
@@ -41,7 +43,7 @@ pub use page_runs::{PagePlan, run_page};
 pub use picture_runs::run_picture;
 pub use printing_runs::{Printing, PrintingPlan, run_expand, run_printing};
 pub use readings::read_whole;
-pub use show_pictures::PicturePlan;
+pub use show_pictures::{CutPlan, PicturePlan, TileSize};
 pub use solve_runs::{SolvePlan, run_solve, run_solve_watched};
 pub use solver::SearchPlan;
 pub use symmetry_orbits::RandomFold;
