@@ -1,7 +1,7 @@
 //! The recursion of a pass. It goes depth first, and takes the open options of an item from a random one on, after the
 //! last of them from the first one on.
 
-ghost use Rattle.std.specs.Prelude.{◌≡◌, ◌≢◌, ◌≤◌, ◌+◌, None, IfOk, IfSome, IsErrOf, OnOk, length, map};
+ghost use Rattle.std.specs.Prelude.{◌≡◌, ◌≢◌, ◌≤◌, ◌+◌, None, IfOk, IfSome, MatchOption, IsErrOf, OnOk, length, map};
 ghost use Rattle.puzzle_symmetry.specs.Motion.{line_of};
 ghost use Rattle.xcc_form.specs.Options.{cover_of};
 ghost use Rattle.xcc_form.specs.Clashes.{IsOpenAt};
@@ -17,7 +17,8 @@ use crate::searches::{Progress, Search};
 use crate::turns::Turn;
 use crate::watches::FindWatch;
 use rand_core::Rng;
-use xcc_form::{Chooses, LeastLeft, OpenOptions, option_behind};
+use std::alloc::AllocError;
+use xcc_form::{Chooses, FewestOptions, LeastLeft, OpenOptions, option_behind};
 
 /// Lists the arrangements that have all chosen options, until as many are listed as are wanted or the pass is spent. Of
 /// arrangements that symmetries take into each other it lists only the first.
@@ -47,13 +48,27 @@ pub(crate) fn walk<E: OpenOptions, W: FindWatch>(
     if let Some(ended) = search.ended(progress) {
         return Ok(ended);
     }
-    match LeastLeft.choose_item(engine)? {
+    match item_of(engine, progress)? {
         Some(item) => walk_item(engine, search, progress, item),
         None => {
             add_leaf(engine, search, progress)?;
             Ok(Ended::Whole)
         }
     }
+}
+
+// The item to branch on. Until something is listed it is the one whose options leave the least, since that leads to a
+// first arrangement soonest; then it is the one with the fewest options, which is chosen in a fraction of the time.
+fn item_of<E: OpenOptions>(engine: &mut E, progress: &Progress) -> Result<Option<u32>, AllocError>
+    ensures same { engine.new ≡ engine.old }
+    ensures uncovered { let s = E.selection engine.old in IfOk result (λ o. MatchOption o
+        (AreAllCovered (cover_of s.compiled) s.chosen)
+        (IsUncovered (cover_of s.compiled) s.chosen)) }
+{
+    if progress.listed.arrangements.is_empty() {
+        return LeastLeft.choose_item(engine);
+    }
+    FewestOptions.choose_item(engine)
 }
 
 // Lists the arrangements that have all chosen options and one of the item's.

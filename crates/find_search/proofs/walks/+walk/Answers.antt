@@ -27,7 +27,7 @@ pub walk-add_leaf-requires-clause-covered : goal.walk-add_leaf-requires-clause-c
 walk-add_leaf-requires-clause-covered g t c =
     let s = g.E.OpenOptions.selection c.args.engine.now in
     let told = subst (λ o. MatchOption o (AreAllCovered (cover_of s.compiled) s.chosen) (IsUncovered (cover_of s.compiled) s.chosen)) c.in-None.is c.in_ok-item.ensures.uncovered in
-    subst (λ (v : Selection). AreAllCovered (cover_of v.compiled) v.chosen) (sym (ap g.E.OpenOptions.selection c.choose_item.ensures.same)) told
+    subst (λ (v : Selection). AreAllCovered (cover_of v.compiled) v.chosen) (sym (ap g.E.OpenOptions.selection c.item_of.ensures.same)) told
 
 -- ---- an item
 
