@@ -5,20 +5,22 @@ ghost use Rattle.match_puzzle.specs.Numbers.{AreMoreThan};
 ghost use Rattle.count_search.specs.Looks.{AreLooks};
 ghost use Rattle.count_search.specs.Extensions.{IsExtension, HasExtensions};
 
+use crate::rules::ItemRule;
 use crate::weights::weight_of;
 use std::alloc::AllocError;
 use xcc_form::OpenOptions;
 
 /// Returns how many arrangements have all chosen options, or `None` where there are more than `most`.
 ///
-/// It branches on the uncovered item with the fewest open options, and keeps nothing of what it finds. Of the options
-/// that show the same it chooses only the first, which counts for all of them: `looks` has to name, for an option, the
-/// first that shows the same. Whatever it chooses it takes back.
+/// It branches on the item that `rule` names, and keeps nothing of what it finds. Of the options that show the same it
+/// chooses only the first, which counts for all of them: `looks` has to name, for an option, the first that shows the
+/// same. Whatever it chooses it takes back.
 ///
 /// An error comes where memory is refused.
 #[cycle(count_below)]
 pub fn count_below<E: OpenOptions>(
     engine: &mut E,
+    rule: ItemRule,
     looks: &[Option<u32>],
     most: u64,
 ) -> Result<Option<u64>, AllocError>
@@ -30,7 +32,7 @@ pub fn count_below<E: OpenOptions>(
     ensures most { IfOk result (λ o. IfSome o (λ count. count ≤ most)) }
 {
     let _right = engine.chosen();
-    let Some(item) = engine.branch_item() else {
+    let Some(item) = rule.item_of(engine) else {
         return Ok(if most == 0 { None } else { Some(1) });
     };
     let mut sum: u64 = 0;
@@ -41,7 +43,7 @@ pub fn count_below<E: OpenOptions>(
             continue;
         };
         engine.choose(option)?;
-        let below = count_below(engine, looks, share(most - sum, weight));
+        let below = count_below(engine, rule, looks, share(most - sum, weight));
         engine.undo();
         let Some(count) = below? else {
             return Ok(None);

@@ -4,6 +4,7 @@
 
 ghost use Rattle.std.specs.Prelude.{◌≡◌};
 
+use crate::rules::ItemRule;
 use rand_core::{Rng, SeedableRng};
 use rand_xoshiro::Xoshiro256PlusPlus;
 use std::alloc::{AllocError, Global};
@@ -27,9 +28,51 @@ pub fn work_of(alloc: Global, xcc: &Xcc<'_>) -> Result<u64, AllocError> {
     Dives::new(xcc.cells()).mean(&mut engine, DIVES_FROM_ROOT)
 }
 
+// How many dives from the root guess which rule makes a search short.
+const DIVES_FOR_A_RULE: u64 = 64;
+
+// Cells are taken in their order where that is guessed to leave this many times fewer nodes: few dives may guess far too
+// low, and they do so most there.
+const TIMES_FEWER: u64 = 8;
+
+// The rule for which dives guess the fewest nodes of a search, and how many these are.
+#[derive(Clone, Copy)]
+pub(crate) struct GuessedSearch {
+    pub(crate) rule: ItemRule,
+    pub(crate) nodes: u64,
+}
+
+// The rule by which a search from where the engine is has the fewest nodes, as dives guess. The puzzle has this many
+// cells.
+pub(crate) fn shorter_search<E: OpenOptions>(
+    engine: &mut E,
+    cells: u16,
+) -> Result<GuessedSearch, AllocError>
+    ensures { engine.new ≡ engine.old }
+{
+    let fewest = guessed_search(engine, cells, ItemRule::Fewest)?;
+    let in_order = guessed_search(engine, cells, ItemRule::InOrder)?;
+    let is_shorter = in_order.nodes.saturating_mul(TIMES_FEWER) < fewest.nodes;
+    Ok(if is_shorter { in_order } else { fewest })
+}
+
+// How many nodes a search by this rule has, as dives guess.
+fn guessed_search<E: OpenOptions>(
+    engine: &mut E,
+    cells: u16,
+    rule: ItemRule,
+) -> Result<GuessedSearch, AllocError>
+    ensures { engine.new ≡ engine.old }
+{
+    let mut dives = Dives::by(rule, cells);
+    let nodes = dives.mean(engine, DIVES_FOR_A_RULE)?;
+    Ok(GuessedSearch { rule, nodes })
+}
+
 // What dives are made with.
 #[derive(Drop)]
 pub(crate) struct Dives {
+    rule: ItemRule,
     random: Xoshiro256PlusPlus,
     // the most levels that a tree has
     levels: u16,
@@ -38,9 +81,15 @@ pub(crate) struct Dives {
 }
 
 impl Dives {
-    // Dives for a puzzle with this many cells.
+    // Dives for a puzzle with this many cells, which branch on the item with the fewest open options.
     pub(crate) fn new(cells: u16) -> Dives {
+        Dives::by(ItemRule::Fewest, cells)
+    }
+
+    // Dives for a puzzle with this many cells, which choose items by this rule.
+    pub(crate) fn by(rule: ItemRule, cells: u16) -> Dives {
         Dives {
+            rule,
             random: Xoshiro256PlusPlus::seed_from_u64(SEED),
             levels: cells,
             steps: 0,
@@ -74,7 +123,7 @@ impl Dives {
         ensures { engine.new ≡ engine.old }
     {
         self.steps = self.steps.saturating_add(1);
-        let Some(item) = engine.branch_item() else {
+        let Some(item) = self.rule.item_of(engine) else {
             return Ok(1);
         };
         let children = engine.size(item);

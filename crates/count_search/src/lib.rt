@@ -11,6 +11,8 @@ mod laws;
 mod looks;
 mod parts;
 mod roots;
+mod rules;
+mod short_counts;
 mod splits;
 mod spreads;
 mod totals;
@@ -27,6 +29,8 @@ pub use laws::{
     selections_have_a_number, symmetric_options_have_as_many,
 };
 pub use parts::part_of;
+pub use rules::ItemRule;
+pub use short_counts::count_if_short;
 pub use splits::{MOST_BRANCHES, split};
 pub use totals::count_arrangements;
 pub use watches::CensusWatch;

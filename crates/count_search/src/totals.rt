@@ -12,6 +12,7 @@ use crate::branches::Branch;
 use crate::counting::count_below;
 use crate::crews::Count;
 use crate::looks::looks_of;
+use crate::rules::ItemRule;
 use crate::spreads::spread;
 use crate::watches::CensusWatch;
 use std::alloc::{AllocError, Global};
@@ -70,7 +71,7 @@ fn count_with<E: OpenOptions>(
     ensures most { IfOk result (λ o. IfSome o (λ count. count ≤ most)) }
 {
     let Some((option, others)) = options.split_first() else {
-        return count_below(engine, looks, most);
+        return count_below(engine, ItemRule::Fewest, looks, most);
     };
     engine.choose(*option)?;
     let counted = count_with(engine, looks, others, most);

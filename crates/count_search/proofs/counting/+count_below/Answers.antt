@@ -3,7 +3,7 @@ use Rattle.match_puzzle.specs.Numbers.{AreSoMany, AreMoreThan}
 use Rattle.match_puzzle.proofs.NumberLemmas.{more_than_fewer}
 use Rattle.xcc_form.specs.Options.{cover_of}
 use Rattle.xcc_form.specs.Clashes.{IsOpen, IsOpenAt}
-use Rattle.xcc_form.specs.Chosen.{Selection, AreAllCovered, IsUncovered, IsToBranchOn, with_option}
+use Rattle.xcc_form.specs.Chosen.{Selection, AreAllCovered, IsUncovered, with_option}
 use Rattle.xcc_form.proofs.NextLemmas.{next_open}
 use Rattle.count_search.specs.Looks.{AreLooks}
 use Rattle.count_search.specs.Weights.{IsPassed, IsWeight}
@@ -13,9 +13,9 @@ use Rattle.count_search.proofs.TotalLemmas.{within_share}
 use Rattle.count_search.specs.Extensions.{IsExtension, HasExtensions}
 use Rattle.count_search.proofs.counting.+count_below.Goals as goal
 
--- What `branch_item` says.
+-- What `item_of` says.
 abbrev IsBranch : Selection → ℕ → Type 0
-IsBranch s item = IsToBranchOn (cover_of s.compiled) s.chosen item
+IsBranch s item = IsUncovered (cover_of s.compiled) s.chosen item
 
 pub returns-then-most-eq0-clause-same : goal.returns-then-most-eq0-clause-same
 returns-then-most-eq0-clause-same g t c = refl
@@ -32,8 +32,8 @@ returns-else-most-eq0-clause-most g t c = let some = c.if-most-eq0.false in omeg
 pub next_option-next-requires-clause-item : goal.next_option-next-requires-clause-item
 next_option-next-requires-clause-item g t c =
     let s = g.E.OpenOptions.selection c.args.engine.now in
-    let branch = subst (λ o. MatchOption o (AreAllCovered (cover_of s.compiled) s.chosen) (IsBranch s)) c.in-Some.is c.branch_item.ensures in
-    branch.uncovered
+    let branch = subst (λ o. MatchOption o (AreAllCovered (cover_of s.compiled) s.chosen) (IsBranch s)) c.in-Some.is c.item_of.ensures in
+    branch
 
 pub next_option-next-requires-clause-after : goal.next_option-next-requires-clause-after
 next_option-next-requires-clause-after g t c = tt
@@ -41,8 +41,8 @@ next_option-next-requires-clause-after g t c = tt
 pub next_option-next-requires-in-Some-next-clause-item : goal.next_option-next-requires-in-Some-next-clause-item
 next_option-next-requires-in-Some-next-clause-item g t c =
     let s = g.E.OpenOptions.selection c.args.engine.now in
-    let branch = subst (λ o. MatchOption o (AreAllCovered (cover_of s.compiled) s.chosen) (IsBranch s)) c.in-Some.is c.branch_item.ensures in
-    subst (λ (v : Selection). IsUncovered (cover_of v.compiled) v.chosen c.in-Some.item) (sym (ap g.E.OpenOptions.selection c.loop-next.invariant.same)) branch.uncovered
+    let branch = subst (λ o. MatchOption o (AreAllCovered (cover_of s.compiled) s.chosen) (IsBranch s)) c.in-Some.is c.item_of.ensures in
+    subst (λ (v : Selection). IsUncovered (cover_of v.compiled) v.chosen c.in-Some.item) (sym (ap g.E.OpenOptions.selection c.loop-next.invariant.same)) branch
 
 pub next_option-next-requires-in-Some-next-clause-after : goal.next_option-next-requires-in-Some-next-clause-after
 next_option-next-requires-in-Some-next-clause-after g t c =
@@ -56,8 +56,8 @@ weight_of-requires-clause-looks g t c = subst (λ (v : Selection). AreLooks v.co
 pub weight_of-requires-clause-item : goal.weight_of-requires-clause-item
 weight_of-requires-clause-item g t c =
     let s = g.E.OpenOptions.selection c.args.engine.now in
-    let branch = subst (λ o. MatchOption o (AreAllCovered (cover_of s.compiled) s.chosen) (IsBranch s)) c.in-Some.is c.branch_item.ensures in
-    subst (λ (v : Selection). IsUncovered (cover_of v.compiled) v.chosen c.in-Some.item) (sym (ap g.E.OpenOptions.selection c.loop-next.invariant.same)) branch.uncovered
+    let branch = subst (λ o. MatchOption o (AreAllCovered (cover_of s.compiled) s.chosen) (IsBranch s)) c.in-Some.is c.item_of.ensures in
+    subst (λ (v : Selection). IsUncovered (cover_of v.compiled) v.chosen c.in-Some.item) (sym (ap g.E.OpenOptions.selection c.loop-next.invariant.same)) branch
 
 pub weight_of-requires-clause-option : goal.weight_of-requires-clause-option
 weight_of-requires-clause-option g t c =
@@ -105,22 +105,22 @@ returns-clause-most g t c = c.loop-next.invariant.most
 pub returns-then-most-eq0-clause-counted : goal.returns-then-most-eq0-clause-counted
 returns-then-most-eq0-clause-counted g t c =
     let s = g.E.OpenOptions.selection c.args.engine.now in
-    let covered = subst (λ o. MatchOption o (AreAllCovered (cover_of s.compiled) s.chosen) (IsBranch s)) c.in_default.is c.branch_item.ensures in
+    let covered = subst (λ o. MatchOption o (AreAllCovered (cover_of s.compiled) s.chosen) (IsBranch s)) c.in_default.is c.item_of.ensures in
     more_than_fewer (IsExtension s) c.args.most 1 (omega (arith, c.if-most-eq0.true)) (one_extension s c.chosen-right.ensures.right covered)
 
 pub returns-else-most-eq0-clause-counted : goal.returns-else-most-eq0-clause-counted
 returns-else-most-eq0-clause-counted g t c =
     let s = g.E.OpenOptions.selection c.args.engine.now in
-    one_extension s c.chosen-right.ensures.right (subst (λ o. MatchOption o (AreAllCovered (cover_of s.compiled) s.chosen) (IsBranch s)) c.in_default.is c.branch_item.ensures)
+    one_extension s c.chosen-right.ensures.right (subst (λ o. MatchOption o (AreAllCovered (cover_of s.compiled) s.chosen) (IsBranch s)) c.in_default.is c.item_of.ensures)
 
 pub loop-next-init : goal.loop-next-init
 loop-next-init g t c =
     let s = g.E.OpenOptions.selection c.args.engine.now in
-    let branch = subst (λ o. MatchOption o (AreAllCovered (cover_of s.compiled) s.chosen) (IsBranch s)) c.in-Some.is c.branch_item.ensures in
+    let branch = subst (λ o. MatchOption o (AreAllCovered (cover_of s.compiled) s.chosen) (IsBranch s)) c.in-Some.is c.item_of.ensures in
     record {
       same = refl;
       next = next_open s s c.in-Some.item None c.next_option-next.result refl c.next_option-next.ensures;
-      counted = none_under s c.chosen-right.ensures.right c.args.looks.now c.requires c.in-Some.item branch.uncovered c.next_option-next.result c.next_option-next.ensures;
+      counted = none_under s c.chosen-right.ensures.right c.args.looks.now c.requires c.in-Some.item branch c.next_option-next.result c.next_option-next.ensures;
       most = omega arith;
     }
 
@@ -132,7 +132,7 @@ loop-next-preserved-in_default-weight_of g t c =
     let option = c.in-Some-next.option in
     let looks = c.args.looks.now in
     let same = ap g.E.OpenOptions.selection i.same in
-    let branch = subst (λ o. MatchOption o (AreAllCovered (cover_of s.compiled) s.chosen) (IsBranch s)) c.in-Some.is c.branch_item.ensures in
+    let branch = subst (λ o. MatchOption o (AreAllCovered (cover_of s.compiled) s.chosen) (IsBranch s)) c.in-Some.is c.item_of.ensures in
     let is_open = subst (λ o. MatchOption o (Unit {0}) (IsOpenAt (cover_of s.compiled) s.chosen item)) c.in-Some-next.is i.next in
     let next = c.next_option-next-in-Some-next.result in
     let h = subst (λ (v : Selection). IsNextOrLast v item (Some option) next) same c.next_option-next-in-Some-next.ensures in
@@ -141,7 +141,7 @@ loop-next-preserved-in_default-weight_of g t c =
     record {
       same = i.same;
       next = next_open s s item (Some option) next refl h;
-      counted = passed_under s c.chosen-right.ensures.right looks c.requires item branch.uncovered option is_open next h c.loop-next.sum passed
+      counted = passed_under s c.chosen-right.ensures.right looks c.requires item branch option is_open next h c.loop-next.sum passed
           (subst (λ o. AreSoMany (IsFoundUnder s looks item o) c.loop-next.sum) c.in-Some-next.is i.counted);
       most = i.most;
     }
@@ -159,7 +159,7 @@ loop-next-preserved g t c =
     let left = c.args.most - c.loop-next.sum in
     let chosen = g.E.OpenOptions.selection c.choose.new.self in
     let same = ap g.E.OpenOptions.selection i.same in
-    let branch = subst (λ o. MatchOption o (AreAllCovered (cover_of s.compiled) s.chosen) (IsBranch s)) c.in-Some.is c.branch_item.ensures in
+    let branch = subst (λ o. MatchOption o (AreAllCovered (cover_of s.compiled) s.chosen) (IsBranch s)) c.in-Some.is c.item_of.ensures in
     let is_open = subst (λ o. MatchOption o (Unit {0}) (IsOpenAt (cover_of s.compiled) s.chosen item)) c.in-Some-next.is i.next in
     let next = c.next_option-next-in-Some-next.result in
     let h = subst (λ (v : Selection). IsNextOrLast v item (Some option) next) same c.next_option-next-in-Some-next.ensures in
@@ -174,7 +174,7 @@ loop-next-preserved g t c =
     record {
       same = back;
       next = next_open s s item (Some option) next refl h;
-      counted = one_more_under s c.chosen-right.ensures.right looks c.requires item branch.uncovered option is_open weight count weighs next h c.loop-next.sum
+      counted = one_more_under s c.chosen-right.ensures.right looks c.requires item branch option is_open weight count weighs next h c.loop-next.sum
           (subst (λ o. AreSoMany (IsFoundUnder s looks item o) c.loop-next.sum) c.in-Some-next.is i.counted)
           (subst (λ v. HasExtensions v count) with below);
       most = omega (arith, within, most);
@@ -206,19 +206,19 @@ returns-in_default-2-clause-counted g t c =
     let share = c.share.result in
     let chosen = g.E.OpenOptions.selection c.choose.new.self in
     let same = ap g.E.OpenOptions.selection i.same in
-    let branch = subst (λ o. MatchOption o (AreAllCovered (cover_of s.compiled) s.chosen) (IsBranch s)) c.in-Some.is c.branch_item.ensures in
+    let branch = subst (λ o. MatchOption o (AreAllCovered (cover_of s.compiled) s.chosen) (IsBranch s)) c.in-Some.is c.item_of.ensures in
     let is_open = subst (λ o. MatchOption o (Unit {0}) (IsOpenAt (cover_of s.compiled) s.chosen item)) c.in-Some-next.is i.next in
     let told = subst (λ (v : Selection). MatchOption c.weight_of.result (IsPassed v looks item option) (IsWeight v looks item option)) same c.weight_of.ensures.weight in
     let weighs = subst (λ o. MatchOption o (IsPassed s looks item option) (IsWeight s looks item option)) c.in-Some-weight_of.is told in
     let with = c.in_ok-choose.ensures.chosen ∙ ap (λ v. with_option (g.E.OpenOptions.selection v) option) i.same in
     let below = subst (λ o. MatchOption o (AreMoreThan share (IsExtension chosen)) (HasExtensions chosen)) c.in_default-2.is c.in_ok-count.ensures.counted in
-    more_under s c.chosen-right.ensures.right looks c.requires item branch.uncovered option is_open c.loop-next.sum c.args.most weight i.most c.in-Some-weight_of.ensures.least weighs
+    more_under s c.chosen-right.ensures.right looks c.requires item branch option is_open c.loop-next.sum c.args.most weight i.most c.in-Some-weight_of.ensures.least weighs
     (subst (λ o. AreSoMany (IsFoundUnder s looks item o) c.loop-next.sum) c.in-Some-next.is i.counted)
     (subst (λ n. AreMoreThan n (IsExtension (with_option s option))) c.share.ensures (subst (λ v. AreMoreThan share (IsExtension v)) with below))
 
 pub returns-clause-counted : goal.returns-clause-counted
 returns-clause-counted g t c =
     let s = g.E.OpenOptions.selection c.args.engine.now in
-    let branch = subst (λ o. MatchOption o (AreAllCovered (cover_of s.compiled) s.chosen) (IsBranch s)) c.in-Some.is c.branch_item.ensures in
-    all_under s c.chosen-right.ensures.right c.args.looks.now c.requires c.in-Some.item branch.uncovered c.loop-next.sum
+    let branch = subst (λ o. MatchOption o (AreAllCovered (cover_of s.compiled) s.chosen) (IsBranch s)) c.in-Some.is c.item_of.ensures in
+    all_under s c.chosen-right.ensures.right c.args.looks.now c.requires c.in-Some.item branch c.loop-next.sum
     (subst (λ o. AreSoMany (IsFoundUnder s c.args.looks.now c.in-Some.item o) c.loop-next.sum) c.in_default-next.is c.loop-next.invariant.counted)
