@@ -202,6 +202,12 @@ draw_first rows m = has_number (command_at (codes "draw")) rows (rule_at (comman
 pub draw_numbers : (rows : List Row) → AreMatchesOf (codes "draw") rows → HasFlag (codes "numbers") rows
 draw_numbers rows m = has_flag (command_at (codes "draw")) rows (rule_at (command_at (codes "draw")) 5) (draw_needed rows m) refl refl refl
 
+pub draw_cut : (rows : List Row) → AreMatchesOf (codes "draw") rows → HasFlag (codes "cut") rows
+draw_cut rows m = has_flag (command_at (codes "draw")) rows (rule_at (command_at (codes "draw")) 6) (draw_needed rows m) refl refl refl
+
+pub draw_size : (rows : List Row) → AreMatchesOf (codes "draw") rows → MayHaveNumber (codes "size") 10 100 rows
+draw_size rows m = may_have_number (command_at (codes "draw")) rows (rule_at (command_at (codes "draw")) 7) 10 100 (passing (codes "draw") rows m refl) refl refl
+
 -- ---- `symmetries`
 
 symmetries_needed : (rows : List Row) → AreMatchesOf (codes "symmetries") rows → HasNeeded (command_at (codes "symmetries")) rows

@@ -1,10 +1,10 @@
 -- Words of a command that give no order.
-use Rattle.std.proofs.Common.{◌≡◌, ◌∙◌, true, false, List, Option, Some, None, inl, inr, refl, sym, subst, codes}
+use Rattle.std.proofs.Common.{◌≡◌, ◌∙◌, ℕ, true, false, List, Option, Some, None, inl, inr, refl, sym, subst, codes}
 use Rattle.std.specs.Str.{bytes_eq}
 use Rattle.std.proofs.lemmas.Slice.Eq.{bytes_eq-Decides}
 use Rattle.clap.specs.Words.{Row, Text, first_of}
 use Rattle.command_words.specs.Asked.{AreAskedFor, IsAsked, MayStandAt}
-use Rattle.command_words.specs.Orders.{ArePlaces, AreWantedRules, AreWritable, AskFor, AskForOrbits, IsDraft, IsExtent, IsFlagged, IsGiven, IsMisfit, IsOrderOf, IsPlace, IsSubject, NameFiles, NamesPuzzle, TellsOfMisfit}
+use Rattle.command_words.specs.Orders.{ArePlaces, AreWantedRules, AreWritable, AskFor, AskForCut, AskForOrbits, IsDraft, IsExtent, IsFlagged, IsGiven, IsMisfit, IsOrderOf, IsPlace, IsSubject, NameFiles, NamesPuzzle, TellsOfMisfit}
 use Rattle.command_words.specs.Places.{AreTwoOnInput}
 use Rattle.command_words.specs.declared.faults.WordsFault.{WordsFault}
 use Rattle.command_words.specs.declared.faults.WordsFault.TheVariants.{Words, Memory}
@@ -54,6 +54,7 @@ no_count rows listed searched (orders.Generate order) is = differ (codes "count"
 no_count rows listed searched (orders.Show subject) is = differ (codes "count") (codes "show") refl is.0
 no_count rows listed searched (orders.Draw order) is = differ (codes "count") (codes "draw") refl is.0
 no_count rows listed searched (orders.DrawAll order) is = differ (codes "count") (codes "draw") refl is.0
+no_count rows listed searched (orders.Cut order) is = differ (codes "count") (codes "draw") refl is.0
 no_count rows listed searched (orders.Symmetries puzzle) is = differ (codes "count") (codes "symmetries") refl is.0
 no_count rows listed searched (orders.Tiles order) is = differ (codes "count") (codes "tiles") refl is.0
 
@@ -75,6 +76,7 @@ no_solve rows none (orders.Generate order) is = differ (codes "solve") (codes "g
 no_solve rows none (orders.Show subject) is = differ (codes "solve") (codes "show") refl is.0
 no_solve rows none (orders.Draw order) is = differ (codes "solve") (codes "draw") refl is.0
 no_solve rows none (orders.DrawAll order) is = differ (codes "solve") (codes "draw") refl is.0
+no_solve rows none (orders.Cut order) is = differ (codes "solve") (codes "draw") refl is.0
 no_solve rows none (orders.Symmetries puzzle) is = differ (codes "solve") (codes "symmetries") refl is.0
 no_solve rows none (orders.Tiles order) is = differ (codes "solve") (codes "tiles") refl is.0
 
@@ -106,6 +108,7 @@ no_find rows none (orders.Generate order) is = differ (codes "find") (codes "gen
 no_find rows none (orders.Show subject) is = differ (codes "find") (codes "show") refl is.0
 no_find rows none (orders.Draw order) is = differ (codes "find") (codes "draw") refl is.0
 no_find rows none (orders.DrawAll order) is = differ (codes "find") (codes "draw") refl is.0
+no_find rows none (orders.Cut order) is = differ (codes "find") (codes "draw") refl is.0
 no_find rows none (orders.Symmetries puzzle) is = differ (codes "find") (codes "symmetries") refl is.0
 no_find rows none (orders.Tiles order) is = differ (codes "find") (codes "tiles") refl is.0
 
@@ -126,8 +129,30 @@ no_generate rows none (orders.Generate order) is = none order.rules order.draft 
 no_generate rows none (orders.Show subject) is = differ (codes "generate") (codes "show") refl is.0
 no_generate rows none (orders.Draw order) is = differ (codes "generate") (codes "draw") refl is.0
 no_generate rows none (orders.DrawAll order) is = differ (codes "generate") (codes "draw") refl is.0
+no_generate rows none (orders.Cut order) is = differ (codes "generate") (codes "draw") refl is.0
 no_generate rows none (orders.Symmetries puzzle) is = differ (codes "generate") (codes "symmetries") refl is.0
 no_generate rows none (orders.Tiles order) is = differ (codes "generate") (codes "tiles") refl is.0
+
+-- none of a drawing whose words don't say whether tiles are cut out
+pub no_draw : (rows : List Row) → ((size : Option ℕ) → AskForCut rows size → ⊥) → (order : Order) → IsOrderOf (Some (codes "draw", rows)) order → ⊥
+no_draw rows none orders.Joined is = is
+no_draw rows none (orders.Check order) is = differ (codes "draw") (codes "check") refl is.0
+no_draw rows none (orders.Explain given) is = differ (codes "draw") (codes "explain") refl is.0
+no_draw rows none (orders.ExplainPuzzle puzzle) is = differ (codes "draw") (codes "explain") refl is.0
+no_draw rows none (orders.Find order) is = differ (codes "draw") (codes "find") refl is.0
+no_draw rows none (orders.Solve order) is = differ (codes "draw") (codes "solve") refl is.0
+no_draw rows none (orders.Expand order) is = differ (codes "draw") (codes "expand") refl is.0
+no_draw rows none (orders.Page order) is = differ (codes "draw") (codes "page") refl is.0
+no_draw rows none (orders.Count given) is = differ (codes "draw") (codes "count") refl is.0
+no_draw rows none (orders.Census order) is = differ (codes "draw") (codes "count") refl is.0
+no_draw rows none (orders.Total parts) is = differ (codes "draw") (codes "total") refl is.0
+no_draw rows none (orders.Generate order) is = differ (codes "draw") (codes "generate") refl is.0
+no_draw rows none (orders.Show subject) is = differ (codes "draw") (codes "show") refl is.0
+no_draw rows none (orders.Draw order) is = none None is.2
+no_draw rows none (orders.DrawAll order) is = none None is.2
+no_draw rows none (orders.Cut order) is = none (Some order.size) is.2
+no_draw rows none (orders.Symmetries puzzle) is = differ (codes "draw") (codes "symmetries") refl is.0
+no_draw rows none (orders.Tiles order) is = differ (codes "draw") (codes "tiles") refl is.0
 
 -- a flag isn't both given and left out
 pub flagged_once : (rows : List Row) (id : Text) → IsFlagged id rows true → IsFlagged id rows false → ⊥

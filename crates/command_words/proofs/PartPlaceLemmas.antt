@@ -83,6 +83,7 @@ no_total rows nowhere (orders.Generate order) is = differ (codes "total") (codes
 no_total rows nowhere (orders.Show subject) is = differ (codes "total") (codes "show") refl is.0
 no_total rows nowhere (orders.Draw order) is = differ (codes "total") (codes "draw") refl is.0
 no_total rows nowhere (orders.DrawAll order) is = differ (codes "total") (codes "draw") refl is.0
+no_total rows nowhere (orders.Cut order) is = differ (codes "total") (codes "draw") refl is.0
 no_total rows nowhere (orders.Symmetries puzzle) is = differ (codes "total") (codes "symmetries") refl is.0
 no_total rows nowhere (orders.Tiles order) is = differ (codes "total") (codes "tiles") refl is.0
 

@@ -169,6 +169,8 @@ draw_app =
     ∷ optional_number (codes "first") 0 MOST_DRAWN (codes "0")
     ∷ optional_text (codes "all")
     ∷ flag (codes "numbers")
+    ∷ flag (codes "cut")
+    ∷ number_if_given (codes "size") 10 100
     ∷ [])
 
 abbrev pub symmetries_app : App

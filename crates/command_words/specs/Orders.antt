@@ -18,7 +18,7 @@ use Rattle.command_words.specs.declared.places.Files.{Files}
 use Rattle.command_words.specs.declared.orders.Subject.{Subject}
 use Rattle.command_words.specs.declared.orders.Subject.TheVariants.{Board, Listed}
 use Rattle.command_words.specs.declared.orders.Order.{Order}
-use Rattle.command_words.specs.declared.orders.Order.TheVariants.{Joined, Check, Explain, ExplainPuzzle, Find, Solve, Expand, Page, Count, Census, Total, Generate, Show, Draw, DrawAll, Symmetries, Tiles}
+use Rattle.command_words.specs.declared.orders.Order.TheVariants.{Joined, Check, Explain, ExplainPuzzle, Find, Solve, Expand, Page, Count, Census, Total, Generate, Show, Draw, DrawAll, Cut, Symmetries, Tiles}
 use Rattle.command_words.specs.Commands.{whole_app}
 use Rattle.command_words.specs.Parts.{IsPartsText}
 use Rattle.match_symmetry.specs.declared.choices.Suggested.{Suggested}
@@ -143,6 +143,20 @@ pub record ArePlacesToDraw (rows : List Row) (places : Places) : Type 0 where
 abbrev pub AreGivenToDraw : List Row → Given → Type 0
 AreGivenToDraw rows given.Joined = ⊥
 AreGivenToDraw rows (Apart places) = ArePlacesToDraw rows places
+
+-- Neither all arrangements are drawn by the matches of `draw`, nor a sheet of several.
+abbrev pub DrawsOne : List Row → Type 0
+DrawsOne rows = (first_of (codes "all") rows ≡ None) × (number_of (codes "first") rows ≡ Some 0)
+
+-- how long the side of a tile is by the matches of `draw`, in millimetres: 40 where they don't say it
+abbrev pub IsTileSize : List Row → (size : ℕ) → Type 0
+IsTileSize rows size =
+    (number_of (codes "size") rows ≡ Some size) ⊎ ((first_of (codes "size") rows ≡ None) × (size ≡ 40))
+
+-- Whether the matches of `draw` ask for tiles that are cut out, and of which size. A size is of these tiles alone.
+abbrev pub AskForCut : List Row → (size : Option ℕ) → Type 0
+AskForCut rows None = IsFlagged (codes "cut") rows false × (first_of (codes "size") rows ≡ None)
+AskForCut rows (Some size) = IsFlagged (codes "cut") rows true × IsTileSize rows size × DrawsOne rows
 
 -- how far a search counts by the matches of `count`
 abbrev pub IsExtent : List Row → Extent → Type 0
@@ -276,11 +290,15 @@ IsOrderOf (Some (name, rows)) (Generate order) =
     × IsFlagged (codes "progress") rows order.progress
 IsOrderOf (Some (name, rows)) (Show subject) = (name ≡ codes "show") × IsSubject rows subject
 IsOrderOf (Some (name, rows)) (Draw order) =
-    (name ≡ codes "draw") × IsSubject rows order.subject × (first_of (codes "all") rows ≡ None)
-    × (number_of (codes "first") rows ≡ Some order.first) × IsFlagged (codes "numbers") rows order.numbers
+    (name ≡ codes "draw") × IsSubject rows order.subject × AskForCut rows None
+    × (first_of (codes "all") rows ≡ None) × (number_of (codes "first") rows ≡ Some order.first) × IsFlagged (codes "numbers") rows order.numbers
 IsOrderOf (Some (name, rows)) (DrawAll order) =
-    (name ≡ codes "draw") × AreGivenToDraw rows order.given × (number_of (codes "N") rows ≡ Some order.number)
-    × (number_of (codes "first") rows ≡ Some order.first) × IsFlagged (codes "numbers") rows order.numbers
+    (name ≡ codes "draw") × AreGivenToDraw rows order.given × AskForCut rows None
+    × (number_of (codes "N") rows ≡ Some order.number) × (number_of (codes "first") rows ≡ Some order.first)
+    × IsFlagged (codes "numbers") rows order.numbers
+IsOrderOf (Some (name, rows)) (Cut order) =
+    (name ≡ codes "draw") × IsSubject rows order.subject × AskForCut rows (Some order.size)
+    × IsFlagged (codes "numbers") rows order.numbers
 IsOrderOf (Some (name, rows)) (Symmetries puzzle) =
     (name ≡ codes "symmetries") × IsPlace (codes "PUZZLE") rows puzzle
 IsOrderOf (Some (name, rows)) (Tiles order) =

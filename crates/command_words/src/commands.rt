@@ -390,7 +390,7 @@ const DRAWING_PROGRESS: Argument = Argument {
     id: "progress",
     kind: Kind::Flag,
     number: None,
-    help: "Says on standard error, at most once a second, which puzzle won't do, and why",
+    help: "Says on standard error, at most once a second, which puzzle won't do and why, or how far a count is",
 };
 
 const TITLE: Argument = Argument {
@@ -489,6 +489,24 @@ const ALL: Argument = Argument {
     },
     number: None,
     help: "Checks the list with this certificate, and draws of all arrangements, in the order of expand",
+};
+
+const CUT: Argument = Argument {
+    id: "cut",
+    kind: Kind::Flag,
+    number: None,
+    help: "Prints pages (HTML) with the tiles, to be printed on paper and cut out",
+};
+
+const TILE_SIZE: Argument = Argument {
+    id: "size",
+    kind: Kind::Option { value: "MM" },
+    number: Some(Number {
+        least: 10,
+        most: 100,
+        default: None,
+    }),
+    help: "How long the side of a tile is with --cut, in millimetres, 10 to 100; 40 is the default",
 };
 
 const SIDES: Argument = Argument {
@@ -646,7 +664,9 @@ const SHOW: CommandTable = CommandTable {
 const DRAW: CommandTable = CommandTable {
     name: "draw",
     about: "Draws a puzzle, or arrangements of a list, as a picture",
-    arguments: &[PUZZLE, DRAWN_LIST, NUMBER, FIRST, ALL, NUMBERS],
+    arguments: &[
+        PUZZLE, DRAWN_LIST, NUMBER, FIRST, ALL, NUMBERS, CUT, TILE_SIZE,
+    ],
     help: helps::DRAW,
 };
 

@@ -16,7 +16,9 @@ ghost use Rattle.std.specs.Prelude.{Bool, IsTrue, IsFalse};
 use crate::commands::generate as generate_command;
 use crate::faults::WordsFault;
 use crate::orders::{ChosenFrom, GenerateOrder, Order, Tries, WantedRules};
-use crate::readings::{flag, misfit, number, place_if_named, seed};
+use crate::readings::{
+    flag, is_given, misfit, number, number_if_given, place_if_named, seed, word,
+};
 use clap::ArgMatches;
 use match_limits::{Colours, Within};
 use puzzle_drafts::{BorderKind, Choice, Draft, PlainBoard, PlainRules};
@@ -50,29 +52,6 @@ const CHOSEN_TWICE: &str = "--hardest and --easiest don't go together";
 
 // The message for a choice among puzzles that may have more arrangements.
 const CHOSEN_OF_ANY: &str = "--hardest and --easiest stand with --unique";
-
-// The text with this id, if there is one.
-fn word<'m>(matches: &'m ArgMatches<'_>, id: &str) -> Option<&'m str>
-    ensures { MatchOption result (first_of id.now (rows_of (found_of matches.now)) ≡ None)
-        (λ word. first_of id.now (rows_of (found_of matches.now)) ≡ Some word.now) }
-{
-    matches.get_str(id)
-}
-
-// The number with this id, if there is one.
-fn number_if_given<const LEAST: u32, const MOST: u32>(
-    matches: &ArgMatches<'_>,
-    id: &str,
-) -> Option<Within<LEAST, MOST>>
-    requires { MayHaveNumber id.now LEAST MOST (rows_of (found_of matches.now)) }
-    ensures { MatchOption result (first_of id.now (rows_of (found_of matches.now)) ≡ None)
-        (λ given. number_of id.now (rows_of (found_of matches.now)) ≡ Some given) }
-{
-    match word(matches, id) {
-        Some(_) => Some(number(matches, id)),
-        None => None,
-    }
-}
 
 // The length with this id, if there is one.
 fn length(matches: &ArgMatches<'_>, id: &str) -> Option<u16>
@@ -169,17 +148,6 @@ fn plain_rules(matches: &ArgMatches<'_>) -> Result<PlainRules, &'static str>
         turns,
         mates,
     })
-}
-
-// Whether there is a text with this id.
-fn is_given(matches: &ArgMatches<'_>, id: &str) -> bool
-    ensures given { IsTrue result → first_of id.now (rows_of (found_of matches.now)) ≡ None → ⊥ }
-    ensures left_out { IsFalse result → first_of id.now (rows_of (found_of matches.now)) ≡ None }
-{
-    match word(matches, id) {
-        Some(_) => true,
-        None => false,
-    }
 }
 
 // Whether the words ask for a board, a border, turns or mates.

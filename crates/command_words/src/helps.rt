@@ -258,7 +258,8 @@ pub(crate) const SHOW: &str = "\
 Draws the board with the numbers of its cells and the colours that the border and clues ask for. Says how \
 many cells, tiles and colours there are, where each colour occurs, whether tiles may be turned, which colours \
 are mates (colours that go together), and how large the puzzle is for solve: how many options it has, each a \
-tile at a cell as the border and clues allow, and how many items these have.
+tile at a cell as the border and clues allow, how many items these have, and, as work, how many nodes a plain \
+search for all arrangements is guessed to meet.
 
 With a list it draws arrangement N of the list instead. Where the list has no such arrangement, or it is not \
 one of the puzzle's, standard error says so. One of the files may be -, standard input.
@@ -277,20 +278,26 @@ board with the colours that the border and clues ask for, and each tile below. W
 each has an arrow that points north.
 
 Where the list has no arrangement N, or one that is to be drawn is not one of the puzzle's, standard error \
-says so, and nothing is printed. Without a list --first and --numbers change nothing. One of the files may be \
--, standard input.
+says so, and nothing is printed. Without a list --first changes nothing, and --numbers only what --cut prints. \
+One of the files may be -, standard input.
+
+With --cut it prints pages in place of a picture: one HTML document of A4 pages, to be opened with a browser, \
+printed at 100 % and cut up. On them are the tiles in the puzzle's order, unturned and apart from each other. \
+--size MM says how many millimetres the side of a tile is long. With --numbers each tile has its number, from 0. \
+With a list a last page has arrangement N, which is the solution where the puzzle has just one.
 
 With --all CERTIFICATE it first checks the list with this certificate. Where the list is complete, it draws \
 of all arrangements of the puzzle, as expand prints them: first those of the list, then their images. Where \
 the list is refused, it prints the answer of check.
 
 Exit status:
-  0  the picture is printed
+  0  the picture is printed, or the pages
   1  with --all: the certificate does not show that the list is complete
   2  anything else; standard error says what
 
 Examples:
   edgematch draw puzzle list 0 --numbers > picture.svg
+  edgematch draw puzzle --cut --size 50 > tiles.html
   edgematch draw puzzle list --all certificate --first 100 > sheet.svg";
 
 pub(crate) const TILES: &str = "\

@@ -3,6 +3,7 @@
 
 mod commands;
 mod draft_words;
+mod drawing_words;
 mod faults;
 mod helps;
 mod orders;
@@ -11,9 +12,9 @@ mod readings;
 
 pub use faults::WordsFault;
 pub use orders::{
-    CensusOrder, CheckOrder, ChosenFrom, DrawAllOrder, DrawOrder, ExpandOrder, Extent, FindOrder,
-    GenerateOrder, MostFound, Order, PageOrder, Parts, SolveOrder, Subject, TilesOrder, Tries,
-    WantedRules,
+    CensusOrder, CheckOrder, ChosenFrom, CutOrder, DrawAllOrder, DrawOrder, ExpandOrder, Extent,
+    FindOrder, GenerateOrder, MostFound, Order, PageOrder, Parts, SolveOrder, Subject, TileSize,
+    TilesOrder, Tries, WantedRules,
 };
 pub use places::{Files, Given, PartPlaces, Place, Places, TwoPlaces};
 pub use readings::order;

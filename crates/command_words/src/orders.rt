@@ -201,6 +201,19 @@ pub struct DrawAllOrder {
     pub numbers: bool,
 }
 
+/// How long the side of a tile is on paper, in millimetres.
+pub type TileSize = Within<10, 100>;
+
+/// The tiles of a puzzle, each by itself, on pages (HTML) that are printed and cut up; with a list, an arrangement on a
+/// last page.
+#[derive(Drop)]
+pub struct CutOrder {
+    pub subject: Subject,
+    pub size: TileSize,
+    /// Whether each tile has its number.
+    pub numbers: bool,
+}
+
 /// A list of the tiles with this many sides and colours.
 #[derive(Drop)]
 pub struct TilesOrder {
@@ -245,6 +258,8 @@ pub enum Order {
     Draw(DrawOrder),
     /// Check documents, and draw arrangements that the list has or stands for, as a picture.
     DrawAll(DrawAllOrder),
+    /// Draw the tiles of a puzzle on pages, to be cut out.
+    Cut(CutOrder),
     /// Print symmetries of the puzzle at this place.
     Symmetries(Place),
     /// List tiles.

@@ -1,6 +1,6 @@
 //! Reads words as orders.
 
-ghost use Rattle.std.specs.Prelude.{◌≡◌, ◌↔◌, ◌<◌, ◌^◌, ℕ, List, Option, Contains, Some, codes, map, IfOk, IfErr, IsTrue, MatchOption};
+ghost use Rattle.std.specs.Prelude.{◌≡◌, ◌↔◌, ◌<◌, ◌^◌, ℕ, List, Option, Contains, Some, codes, map, None, IfOk, IfErr, IsFalse, IsTrue, MatchOption};
 ghost use Rattle.std.specs.String.{string_bytes};
 ghost use Rattle.std.specs.Str.Parse.{digits_value, without_leading_plus};
 ghost use Rattle.clap.specs.Words.{IsUnsignedIn, Row, first_of, found_of, kind_of, rows_of};
@@ -19,15 +19,16 @@ ghost use Rattle.command_words.specs.declared.places.PartPlaces.{PartPlaces};
 ghost use Rattle.match_symmetry.specs.declared.choices.Suggested.{Suggested};
 
 use crate::commands::{
-    check as check_command, count as count_command, draw as draw_command, expand as expand_command,
+    check as check_command, count as count_command, expand as expand_command,
     explain as explain_command, find as find_command, page as page_command, program,
     show as show_command, solve as solve_command, total as total_command,
 };
 use crate::draft_words::generate;
+use crate::drawing_words::draw;
 use crate::faults::WordsFault;
 use crate::orders::{
-    CensusOrder, CheckOrder, DrawAllOrder, DrawOrder, ExpandOrder, Extent, FindOrder, Order,
-    PageOrder, Parts, SolveOrder, Subject, TilesOrder,
+    CensusOrder, CheckOrder, ExpandOrder, Extent, FindOrder, Order, PageOrder, Parts, SolveOrder,
+    Subject, TilesOrder,
 };
 use crate::places::{Files, Given, PartPlaces, Place, Places, TwoPlaces};
 use clap::error::ErrorKind;
@@ -37,7 +38,7 @@ use match_symmetry::Suggested;
 use std::alloc::{AllocError, Global};
 
 // The message for words that name standard input twice.
-const READ_TWICE: &str =
+pub(crate) const READ_TWICE: &str =
     "- is standard input, and is read once: name other documents by their files";
 
 // The message for words that name standard input together with files of counted parts.
@@ -45,10 +46,6 @@ const READ_ALONE: &str = "- is standard input, and stands alone: name files, or 
 
 // The message for a list without a certificate.
 const NO_CERTIFICATE: &str = "a list stands with its certificate: PUZZLE LIST CERTIFICATE";
-
-// The message for a certificate by which no list is drawn.
-const ALL_OF_NO_LIST: &str =
-    "--all draws by a list with its certificate: PUZZLE LIST --all CERTIFICATE";
 
 // The message for a puzzle alone, where all three documents are wanted.
 const NO_LIST: &str =
@@ -91,6 +88,40 @@ pub(crate) fn number<const LEAST: u32, const MOST: u32>(
         unreachable!();
     };
     Within::new(number)
+}
+
+// The text with this id, if there is one.
+pub(crate) fn word<'m>(matches: &'m ArgMatches<'_>, id: &str) -> Option<&'m str>
+    ensures { MatchOption result (first_of id.now (rows_of (found_of matches.now)) ≡ None)
+        (λ word. first_of id.now (rows_of (found_of matches.now)) ≡ Some word.now) }
+{
+    matches.get_str(id)
+}
+
+// The number with this id, if there is one.
+pub(crate) fn number_if_given<const LEAST: u32, const MOST: u32>(
+    matches: &ArgMatches<'_>,
+    id: &str,
+) -> Option<Within<LEAST, MOST>>
+    requires { MayHaveNumber id.now LEAST MOST (rows_of (found_of matches.now)) }
+    ensures { MatchOption result (first_of id.now (rows_of (found_of matches.now)) ≡ None)
+        (λ given. number_of id.now (rows_of (found_of matches.now)) ≡ Some given) }
+{
+    match word(matches, id) {
+        Some(_) => Some(number(matches, id)),
+        None => None,
+    }
+}
+
+// Whether there is a text with this id.
+pub(crate) fn is_given(matches: &ArgMatches<'_>, id: &str) -> bool
+    ensures given { IsTrue result → first_of id.now (rows_of (found_of matches.now)) ≡ None → ⊥ }
+    ensures left_out { IsFalse result → first_of id.now (rows_of (found_of matches.now)) ≡ None }
+{
+    match word(matches, id) {
+        Some(_) => true,
+        None => false,
+    }
 }
 
 // What the random numbers of a search or of a drawing begin with.
@@ -155,7 +186,7 @@ pub(crate) fn place_if_named(
 }
 
 // Where the named puzzle is.
-fn puzzle_place(alloc: Global, matches: &ArgMatches<'_>) -> Result<Place, AllocError>
+pub(crate) fn puzzle_place(alloc: Global, matches: &ArgMatches<'_>) -> Result<Place, AllocError>
     requires { HasText (codes "PUZZLE") (rows_of (found_of matches.now)) }
     ensures { IfOk result (IsPlace (codes "PUZZLE") (rows_of (found_of matches.now))) }
 {
@@ -219,7 +250,10 @@ fn three_documents(
 }
 
 // A puzzle alone, or a listed arrangement; `None` where both the puzzle and the list are standard input.
-fn read_subject(alloc: Global, matches: &ArgMatches<'_>) -> Result<Option<Subject>, AllocError>
+pub(crate) fn read_subject(
+    alloc: Global,
+    matches: &ArgMatches<'_>,
+) -> Result<Option<Subject>, AllocError>
     requires puzzle { HasText (codes "PUZZLE") (rows_of (found_of matches.now)) }
     requires number { HasNumber (codes "N") 0 999999 (rows_of (found_of matches.now)) }
     ensures { IfOk result (λ subject. MatchOption subject
@@ -605,53 +639,6 @@ fn show(alloc: Global, matches: &ArgMatches<'_>) -> Result<Order, WordsFault>
     Ok(Order::Show(subject))
 }
 
-fn draw(alloc: Global, matches: &ArgMatches<'_>) -> Result<Order, WordsFault>
-    requires { AreMatchesOf (codes "draw") (rows_of (found_of matches.now)) }
-    ensures order { IfOk result (IsOrderOf (Some (codes "draw", rows_of (found_of matches.now)))) }
-    ensures refused { IfErr result (IsMisfit (Some (codes "draw", rows_of (found_of matches.now)))) }
-{
-    if let Some(certificate) = place_if_named(alloc, matches, "all")? {
-        return draw_all(alloc, matches, certificate);
-    }
-    let Some(subject) = read_subject(alloc, matches)? else {
-        return Err(misfit(draw_command(alloc), "edgematch draw", READ_TWICE));
-    };
-    let first = number(matches, "first");
-    let numbers = flag(matches, "numbers");
-    Ok(Order::Draw(DrawOrder {
-        subject,
-        first,
-        numbers,
-    }))
-}
-
-// Draws of all arrangements, by the list and by this certificate.
-fn draw_all(
-    alloc: Global,
-    matches: &ArgMatches<'_>,
-    certificate: Place,
-) -> Result<Order, WordsFault>
-    requires draw { AreMatchesOf (codes "draw") (rows_of (found_of matches.now)) }
-    requires certificate { IsPlace (codes "all") (rows_of (found_of matches.now)) certificate }
-    ensures order { IfOk result (IsOrderOf (Some (codes "draw", rows_of (found_of matches.now)))) }
-    ensures refused { IfErr result (IsMisfit (Some (codes "draw", rows_of (found_of matches.now)))) }
-{
-    let puzzle = puzzle_place(alloc, matches)?;
-    let list = place_if_named(alloc, matches, "LIST")?;
-    let Some(list) = list else {
-        return Err(misfit(draw_command(alloc), "edgematch draw", ALL_OF_NO_LIST));
-    };
-    let Some(places) = Places::new(puzzle, list, certificate) else {
-        return Err(misfit(draw_command(alloc), "edgematch draw", READ_TWICE));
-    };
-    Ok(Order::DrawAll(DrawAllOrder {
-        given: Given::Apart(places),
-        number: number(matches, "N"),
-        first: number(matches, "first"),
-        numbers: flag(matches, "numbers"),
-    }))
-}
-
 fn symmetries(alloc: Global, matches: &ArgMatches<'_>) -> Result<Order, WordsFault>
     requires { AreMatchesOf (codes "symmetries") (rows_of (found_of matches.now)) }
     ensures order { IfOk result (IsOrderOf (Some (codes "symmetries", rows_of (found_of matches.now)))) }
@@ -684,7 +671,7 @@ fn tiles(matches: &ArgMatches<'_>) -> Order
 /// - `solve` or `find` asks for symmetries by a word other than the two
 /// - `find` asks for symmetries and not for orbits
 /// - `generate` names no board, both a board and a puzzle to take it from, or is asked to choose of what needn't be unique
-/// - `draw` has a certificate and no list
+/// - `draw` has a certificate and no list, a size and no `--cut`, or `--cut` with a certificate or a sheet
 /// - two documents are to be read from standard input
 pub fn order(alloc: Global, words: &[String]) -> Result<Order, WordsFault>
     ensures order { IfOk result (IsOrder (map string_bytes words.now)) }

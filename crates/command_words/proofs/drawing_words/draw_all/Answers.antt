@@ -1,7 +1,7 @@
 use Rattle.std.proofs.Common.{arith}
 use Rattle.clap.specs.Words.{found_of, rows_of}
 use Rattle.command_words.proofs.CommandLemmas.{draw_first, draw_number, draw_numbers, draw_puzzle}
-use Rattle.command_words.proofs.readings.draw_all.Goals as goal
+use Rattle.command_words.proofs.drawing_words.draw_all.Goals as goal
 
 pub puzzle_place-requires : goal.puzzle_place-requires
 puzzle_place-requires c = draw_puzzle (rows_of (found_of c.args.matches.now)) c.requires.draw

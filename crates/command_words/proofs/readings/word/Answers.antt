@@ -3,7 +3,7 @@ use Rattle.std.specs.Borrow.{Bor}
 use Rattle.std.specs.Option.{option_map}
 use Rattle.clap.specs.Words.{Row, Text, first_of, found_of, rows_of}
 use Rattle.clap.proofs.WalkLemmas.{first_value-rows}
-use Rattle.command_words.proofs.draft_words.word.Goals as goal
+use Rattle.command_words.proofs.readings.word.Goals as goal
 
 -- the text that is found, or none
 found : (id : Text) (rows : List Row) (word : Option (Bor Text)) → option_map (λ s. s.now) word ≡ first_of id rows
