@@ -198,9 +198,9 @@ class Asked:
 
     def version(self):
         """The version of the text."""
-        if self.options.spare or self.options.clues or (self.source and self.source.rows):
+        if self.options.spare or self.options.clues:
             return "3"
-        return "2" if self.options.mates or (self.source and self.source.mates) else "1"
+        return "2" if self.options.mates or (self.source and (self.source.rows or self.source.mates)) else "1"
 
     def frame(self, puzzle):
         """The colour that all outer sides show, and no other, or `None`. A puzzle has such a frame if its tiles don't show

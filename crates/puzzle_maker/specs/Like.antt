@@ -69,12 +69,16 @@ pub record FitsLike (m : Task) (d : Draft) : Type 0 where
   pub clues : d.clues ≤ cell_count m.board
   pub fits : (misfit : Misfit) → MisfitsLike m d misfit → ⊥
 
--- the version of a puzzle on this board: 3 on a shape, else by its mates and by how many spare tiles and clues it has
+-- the version of a puzzle on this board that has no spare tiles and no clues: 2 on a shape, or where there are mates
+abbrev pub plain_version_on : Figure → (mates : List ℕ) → ℕ
+plain_version_on (Rectangle width height) mates = if length mates == 0 then 1 else 2
+plain_version_on (Triangle size) mates = if length mates == 0 then 1 else 2
+plain_version_on (Hexagon size) mates = if length mates == 0 then 1 else 2
+plain_version_on (Shape width height mask) mates = 2
+
+-- the version of a puzzle on this board, with so many spare tiles and clues: 3 where it has any
 abbrev pub version_on : Figure → (mates : List ℕ) → (further : ℕ) → ℕ
-version_on (Rectangle width height) mates further = if further == 0 then (if length mates == 0 then 1 else 2) else 3
-version_on (Triangle size) mates further = if further == 0 then (if length mates == 0 then 1 else 2) else 3
-version_on (Hexagon size) mates further = if further == 0 then (if length mates == 0 then 1 else 2) else 3
-version_on (Shape width height mask) mates further = 3
+version_on board mates further = if further == 0 then plain_version_on board mates else 3
 
 -- a puzzle like the model, whatever clues it has: with its board, turns, border and mates, and with tiles as are asked for
 pub record IsLike (m : Task) (d : Draft) (p : Task) : Type 0 where

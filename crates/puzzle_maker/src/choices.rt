@@ -145,7 +145,7 @@ fn next_puzzle<W: MakerWatch>(
         → (plan.now.draft.is_unique ≡ true) ⊎ (1 ≤ plan.now.draft.clues) }
 {
     for number in 0..plan.draft.tries {
-        match candidate(alloc, plan, drawing) {
+        match candidate(alloc, plan, drawing, watch) {
             Ok(puzzle) => return Ok(puzzle),
             Err(Refusal::Flaw(flaw)) => watch.failed(number + 1, flaw),
             Err(Refusal::TooMany) => return Err(MakeFault::TooMany),
@@ -156,7 +156,12 @@ fn next_puzzle<W: MakerWatch>(
 }
 
 // Draws one more puzzle, and checks that it is all that is planned.
-fn candidate(alloc: Global, plan: &Plan, drawing: &mut Drawing<'_>) -> Result<Puzzle, Refusal>
+fn candidate<W: MakerWatch>(
+    alloc: Global,
+    plan: &Plan,
+    drawing: &mut Drawing<'_>,
+    watch: &W,
+) -> Result<Puzzle, Refusal>
     ensures made { IfOk result (IsMadeAsPlanned plan.now) }
     ensures too_many { IsErrOf result Refusal.TooMany → (p : Task) × IsAsPlanned plan.now p × HasTooManyEntries p }
     ensures searched { IsErrOf result Refusal.TooMany
@@ -169,6 +174,6 @@ fn candidate(alloc: Global, plan: &Plan, drawing: &mut Drawing<'_>) -> Result<Pu
         return Err(Refusal::Flaw(Flaw::NotAsDrawn));
     };
     let puzzle = puzzle_with_clues(alloc, plan, &cut)?;
-    judge(alloc, plan, &puzzle, &cut.planted)?;
+    judge(alloc, plan, &puzzle, &cut.planted, watch)?;
     Ok(puzzle)
 }

@@ -67,7 +67,7 @@ pub enum Flaw {
     #[error("equal tiles")]
     EqualTiles,
     /// It has more arrangements than this.
-    #[error("more than {0} arrangements")]
+    #[error("more arrangements than {0}")]
     ManyArrangements(u8),
     /// It isn't what was drawn. This doesn't happen, but no proof says so.
     #[error("not as drawn")]

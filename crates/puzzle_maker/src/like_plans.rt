@@ -103,16 +103,13 @@ pub(crate) fn plan_like(
 fn version_of(model: &Puzzle, draft: &Draft) -> u8
     ensures { result ≡ version_on model.now.board model.now.mating.mates (draft.now.spare + draft.now.clues) }
 {
+    if draft.spare > 0 || draft.clues > 0 {
+        return 3;
+    }
     match model.board().figure() {
-        Figure::Shape { .. } => 3,
+        Figure::Shape { .. } => 2,
         Figure::Rectangle { .. } | Figure::Triangle { .. } | Figure::Hexagon { .. } => {
-            if draft.spare > 0 || draft.clues > 0 {
-                3
-            } else if model.mates().is_empty() {
-                1
-            } else {
-                2
-            }
+            if model.mates().is_empty() { 1 } else { 2 }
         }
     }
 }

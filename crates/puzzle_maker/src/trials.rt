@@ -29,11 +29,12 @@ const BRANCHES: u32 = 256;
 ///
 /// An `Err` says what is wrong with it; or that its options are too many, where its arrangements are to be counted; or
 /// that memory was refused.
-pub(crate) fn judge(
+pub(crate) fn judge<W: CensusWatch>(
     alloc: Global,
     plan: &Plan,
     puzzle: &Puzzle,
     planted: &[Placement],
+    watch: &W,
 ) -> Result<(), Refusal>
     requires { IsAsPlanned plan.now puzzle.now }
     ensures made { OnOk result (IsMadeAsPlanned plan.now puzzle.now) }
@@ -47,7 +48,7 @@ pub(crate) fn judge(
     if draft.is_different && !(are_all_different(puzzle) && is_none_its_own_turn(puzzle)) {
         return Err(Refusal::Flaw(Flaw::EqualTiles));
     }
-    if draft.is_unique && !has_at_most(alloc, puzzle, plan.most)? {
+    if draft.is_unique && !has_at_most(alloc, puzzle, plan.most, watch)? {
         return Err(Refusal::Flaw(Flaw::ManyArrangements(plan.most)));
     }
     Ok(())
@@ -199,17 +200,23 @@ fn period(puzzle: &Puzzle, tile: u16) -> u8
 }
 
 // Whether the puzzle has at most so many arrangements.
-fn has_at_most(alloc: Global, puzzle: &Puzzle, most: u8) -> Result<bool, CompileFault>
+fn has_at_most<W: CensusWatch>(
+    alloc: Global,
+    puzzle: &Puzzle,
+    most: u8,
+    watch: &W,
+) -> Result<bool, CompileFault>
     ensures few { IfOk result (λ few. IsTrue few → HasAtMost most puzzle.now) }
     ensures too_many { IsErrOf result CompileFault.TooMany → HasTooManyEntries puzzle.now }
 {
     let xcc = compile(alloc, puzzle)?;
     let symmetries = symmetries_of(alloc, puzzle)?;
     let branches = split(alloc, &xcc, &symmetries, BRANCHES)?;
+    watch.begins(branches.len());
     let count = Count {
         xcc: &xcc,
         branches,
-        watch: &Unwatched,
+        watch,
     };
     let counted = count_arrangements(alloc, count, u64::from(most))?;
     Ok(counted.is_some())
@@ -239,14 +246,4 @@ fn symmetries_of<'a>(alloc: Global, puzzle: &'a Puzzle) -> Result<Vec<Symmetry<'
         }
     }
     Ok(symmetries)
-}
-
-// Nobody watches the count.
-#[derive(Clone, Copy)]
-struct Unwatched;
-
-impl CensusWatch for Unwatched {
-    fn begins(&self, _branches: usize) {}
-
-    fn counted(&self, _arrangements: u64) {}
 }
