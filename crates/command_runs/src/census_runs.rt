@@ -1,6 +1,7 @@
 //! Runs that count the arrangements of a puzzle by a search.
 
 ghost use Rattle.std.specs.Prelude.{◌≡◌, ◌<◌, ◌≤◌, ◌++◌, ◌⊎◌, IfOk, IfErr, MatchOption, OnOk, codes, length, vec_len};
+ghost use Rattle.match_puzzle.specs.Arrangement.{HasArrangements};
 ghost use Rattle.show_text.specs.Facts.{number_line};
 ghost use Rattle.xcc_form.specs.Chosen.{IsSelection};
 ghost use Rattle.count_search.specs.Branches.{AllChoose, HaveTogether, IsSplit};
@@ -25,7 +26,8 @@ use crate::suggested::suggested_symmetries;
 use byte_streams::{Document, MadeText, OneSink, OneSource, Sink, Source, Text};
 use command_words::{Extent, Parts};
 use count_search::{
-    Branch, CensusWatch, Count, count_arrangements, count_with_crew, hash_of, part_of, split,
+    Branch, CensusWatch, Count, count_arrangements, count_if_short, count_with_crew, hash_of,
+    part_of, split,
 };
 use count_totals::{CountedPart, Line, SplitLine, put_line};
 use match_limits::Workers;
@@ -153,10 +155,30 @@ fn all_counted<R: Threads + Sync, T: CensusWatch + Sync>(
     ensures fails { IfErr result (IsNotCounted extents.All puzzle.now) }
 {
     let xcc = compile(alloc, puzzle)?;
-    let branches = branches_of(alloc, &xcc, SHARED)?;
-    plan.watch.begins(branches.len());
-    let count = counted_together(rt, alloc, &xcc, branches, plan)?;
+    let count = whole_count(rt, alloc, &xcc, plan)?;
     Ok(count_line(alloc, b"arrangements", count)?)
+}
+
+// How many arrangements there are: by a short search, if there is one, otherwise by branches that workers share.
+fn whole_count<R: Threads + Sync, T: CensusWatch + Sync>(
+    rt: &R,
+    alloc: Global,
+    xcc: &Xcc<'_>,
+    plan: &CensusPlan<'_, T>,
+) -> Result<u64, RunFault>
+    ensures counted { IfOk result (HasArrangements xcc.now.puzzle) }
+    ensures fails { IfErr result (IsNotCounted extents.All xcc.now.puzzle) }
+{
+    let _compiled = xcc.puzzle();
+    let short = count_if_short(alloc, xcc)?;
+    if let Some(count) = short {
+        plan.watch.begins(1);
+        plan.watch.counted(count);
+        return Ok(count);
+    }
+    let branches = branches_of(alloc, xcc, SHARED)?;
+    plan.watch.begins(branches.len());
+    counted_together(rt, alloc, xcc, branches, plan)
 }
 
 // How many arrangements these branches have together.
