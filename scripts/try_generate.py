@@ -353,7 +353,9 @@ def wants_seeds(trial, words, seed, made):
     trial.wants("generate", "another run", made, ordered(trial, words, seed).stdout)
     told = ordered(trial, words, seed, "--progress")
     trial.wants("generate --progress", "standard output", made, told.stdout)
-    strange = [it for it in told.stderr.decode().splitlines() if not re.match(r"generate: try \d+ of 100, \S", it)]
+    counts = r"\d+ s, counts a puzzle's arrangements: \d+ of \d+ subtrees, \d+ arrangements"
+    form = rf"generate: (try \d+ of 100, \S|{counts})"
+    strange = [it for it in told.stderr.decode().splitlines() if not re.match(form, it)]
     wants(trial, "lines of progress", [], strange)
     if ordered(trial, words, seed + 1).stdout == made:
         trial.differences.append("another seed gives the same text\n")

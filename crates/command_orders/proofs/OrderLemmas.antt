@@ -21,6 +21,7 @@ use Rattle.command_orders.specs.PlaceOrigins.{BothOpened, OpenedAt, one_place, r
 use Rattle.command_words.specs.declared.places.Place.{Place}
 use Rattle.command_words.specs.declared.places.Places.{Places}
 use Rattle.command_words.specs.declared.places.TwoPlaces.{TwoPlaces}
+use Rattle.command_runs.specs.Cuts.{PrintsCutListed}
 use Rattle.command_runs.specs.Listed.{DrawFails, DrawsListed}
 use Rattle.command_runs.specs.Pictures.{DrawsPicture, PictureFails}
 use Rattle.command_orders.specs.OrderRuns.{DocumentsOf, DrawingOf, EndsBy, ThenDone}
@@ -32,7 +33,7 @@ use Rattle.command_orders.specs.declared.exits.Exit.TheVariants.{Done}
 use Rattle.command_orders.specs.declared.place_runs.DocumentsPlan.{DocumentsPlan}
 use Rattle.command_orders.specs.declared.place_runs.DocumentsPlan.TheVariants as plans
 use Rattle.command_orders.specs.declared.place_runs.Drawing.{Drawing}
-use Rattle.command_orders.specs.declared.place_runs.Drawing.TheVariants.{Arrangement, Picture}
+use Rattle.command_orders.specs.declared.place_runs.Drawing.TheVariants.{Arrangement, Picture, CutTiles}
 use Rattle.match_report.specs.declared.statuses.Status.{Status}
 use Rattle.match_report.specs.declared.statuses.Status.TheVariants as status
 use Rattle.command_runs.specs.declared.faults.RunFault.{RunFault}
@@ -93,6 +94,7 @@ pub drawing_over : (drawing : Drawing) (from from' : Origin TwoTexts) (output : 
     → (result : Result Exit RunFault) → DrawingOf drawing from output result → DrawingOf drawing from' output result
 drawing_over (Arrangement number) from from' output gave stopped result run = over_origin from from' (ThenDone (DrawsListed number)) (DrawFails number) (one_sink output) gave stopped result run
 drawing_over (Picture plan) from from' output gave stopped result run = over_origin from from' (ThenDone (DrawsPicture plan.number plan.first)) (PictureFails plan.number plan.first) (one_sink output) gave stopped result run
+drawing_over (CutTiles number plan) from from' output gave stopped result run = over_origin from from' (ThenDone (PrintsCutListed number plan.size)) (PictureFails number 0) (one_sink output) gave stopped result run
 
 -- what a check of three documents comes to, so
 pub documents_over : (plan : DocumentsPlan) (from from' : Origin Texts) (output : Writing)

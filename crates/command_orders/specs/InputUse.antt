@@ -1,7 +1,7 @@
 -- Which orders read standard input, and what the others leave of it.
 use Rattle.std.specs.Prelude.{◌≡◌, ◌||◌, Bool, true, false}
 use Rattle.command_words.specs.declared.orders.Order.{Order}
-use Rattle.command_words.specs.declared.orders.Order.TheVariants.{Joined, Check, Explain, ExplainPuzzle, Find, Solve, Expand, Count, Page, Census, Total, Generate, Show, Draw, DrawAll, Symmetries, Tiles}
+use Rattle.command_words.specs.declared.orders.Order.TheVariants.{Joined, Check, Explain, ExplainPuzzle, Find, Solve, Expand, Count, Page, Census, Total, Generate, Show, Draw, DrawAll, Cut, Symmetries, Tiles}
 use Rattle.command_words.specs.declared.orders.WantedRules.{WantedRules}
 use Rattle.command_words.specs.declared.orders.WantedRules.TheVariants.{Plain, Like}
 use Rattle.command_words.specs.declared.orders.Subject.{Subject}
@@ -60,6 +60,7 @@ reads_input (Solve order) = is_on_input order.files.puzzle
 reads_input (Show subject) = is_subject_on_input subject
 reads_input (Draw order) = is_subject_on_input order.subject
 reads_input (DrawAll order) = is_given_on_input order.given
+reads_input (Cut order) = is_subject_on_input order.subject
 reads_input (Symmetries puzzle) = is_on_input puzzle
 reads_input (Tiles order) = false
 

@@ -12,7 +12,7 @@ use Rattle.command_words.specs.declared.orders.Order.{Order}
 use Rattle.command_words.specs.declared.orders.DrawAllOrder.{DrawAllOrder}
 use Rattle.command_words.specs.declared.orders.PageOrder.{PageOrder}
 use Rattle.command_words.specs.declared.orders.SolveOrder.{SolveOrder}
-use Rattle.command_words.specs.declared.orders.Order.TheVariants.{Joined, Check, Explain, ExplainPuzzle, Find, Solve, Expand, Count, Page, Census, Total, Generate, Show, Draw, DrawAll, Symmetries, Tiles}
+use Rattle.command_words.specs.declared.orders.Order.TheVariants.{Joined, Check, Explain, ExplainPuzzle, Find, Solve, Expand, Count, Page, Census, Total, Generate, Show, Draw, DrawAll, Cut, Symmetries, Tiles}
 use Rattle.byte_streams.specs.Documents.{Texts}
 use Rattle.byte_streams.specs.Moves.{Writing, reading_of}
 use Rattle.byte_streams.specs.Origins.{Origin, joined_source, no_source}
@@ -24,6 +24,7 @@ use Rattle.byte_streams.specs.declared.sinks.Sink.{Ghosts as SinkMembers}
 use Rattle.byte_streams.specs.declared.sources.Source.{Ghosts as SourceMembers}
 use Rattle.command_runs.specs.Census.{CensusFails, CensusGives}
 use Rattle.command_runs.specs.Checking.{CheckFails, CheckGives, SpellCompleteList}
+use Rattle.command_runs.specs.Cuts.{PrintsCut, PrintsCutListed}
 use Rattle.command_runs.specs.Describing.{Describes, DescribeFails}
 use Rattle.command_orders.specs.Exits.{status_exit}
 use Rattle.command_runs.specs.Finding.{FindFails, FindGives}
@@ -41,7 +42,7 @@ use Rattle.command_orders.specs.SolvedFiles.{PutsAll, solved_files}
 use Rattle.command_orders.specs.declared.place_runs.DocumentsPlan.{DocumentsPlan}
 use Rattle.command_orders.specs.declared.place_runs.DocumentsPlan.TheVariants as plans
 use Rattle.command_orders.specs.declared.place_runs.Drawing.{Drawing}
-use Rattle.command_orders.specs.declared.place_runs.Drawing.TheVariants.{Arrangement, Picture}
+use Rattle.command_orders.specs.declared.place_runs.Drawing.TheVariants.{Arrangement, Picture, CutTiles}
 use Rattle.command_orders.specs.declared.streams.Streams.{Streams}
 use Rattle.command_runs.specs.Solving.{SolveFailsOf, SolveGivesOf}
 use Rattle.command_runs.specs.declared.solve_runs.SolvePlan.{SolvePlan}
@@ -106,6 +107,11 @@ abbrev pub DescriptionOf : Description → Origin (List ℕ) → Writing → Res
 DescriptionOf description from output result =
     Runs from (ThenDone (Describes description)) DescribeFails (one_sink output) result
 
+-- What pages come to with the tiles of a puzzle, whose sides are so many millimetres long.
+abbrev pub CutTilesOf : (size : ℕ) → Origin (List ℕ) → Writing → Result Exit RunFault → Type 0
+CutTilesOf size from output result =
+    Runs from (ThenDone (PrintsCut size)) DescribeFails (one_sink output) result
+
 -- What a count of a puzzle by a search comes to.
 abbrev pub CensusOf : Extent → Origin (List ℕ) → Writing → Result Exit RunFault → Type 0
 CensusOf extent from output result =
@@ -169,6 +175,8 @@ DrawingOf (Arrangement number) from output result =
     Runs from (ThenDone (DrawsListed number)) (DrawFails number) (one_sink output) result
 DrawingOf (Picture plan) from output result =
     Runs from (ThenDone (DrawsPicture plan.number plan.first)) (PictureFails plan.number plan.first) (one_sink output) result
+DrawingOf (CutTiles number plan) from output result =
+    Runs from (ThenDone (PrintsCutListed number plan.size)) (PictureFails number 0) (one_sink output) result
 
 -- ---- orders
 
@@ -190,6 +198,15 @@ module _ {S R W I : Type 0} (system : FileMembers S R W) (source : SourceMembers
     PictureOf (Listed places number) first output result =
         Runs (two_places system source old input given later places) (ThenDone (DrawsPicture number first))
         (PictureFails number first) (one_sink output) result
+
+    -- What comes of pages with the tiles of the puzzle that stands there: with them alone, or with an arrangement of a list
+    -- behind them.
+    abbrev pub PagesOf : Subject → (size : ℕ) → Writing → Result Exit RunFault → Type 0
+    PagesOf (Board puzzle) size output result =
+        CutTilesOf size (one_place system source old input given later puzzle) output result
+    PagesOf (Listed places number) size output result =
+        Runs (two_places system source old input given later places) (ThenDone (PrintsCutListed number size))
+        (PictureFails number 0) (one_sink output) result
 
     -- What comes of a puzzle that is made by these rules, or by those of the puzzle that stands there.
     abbrev pub GenerateOf : WantedRules → Draft → Writing → Result Exit RunFault → Type 0
@@ -240,6 +257,7 @@ module _ {S R W I : Type 0} (system : FileMembers S R W) (source : SourceMembers
           (new ≡ old)
           × PrintingOf (picture_printed order) (given_documents system source old input given later order.given) output
           result
+      RunOf (Cut order) result = (new ≡ old) × PagesOf order.subject order.size output result
       RunOf (Symmetries puzzle) result =
           (new ≡ old)
           × DescriptionOf descriptions.Symmetries (one_place system source old input given later puzzle) output result

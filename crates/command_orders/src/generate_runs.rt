@@ -15,14 +15,17 @@ use crate::progress::GenerateProgress;
 use byte_streams::{Document, FileSystem, Sink, Source};
 use command_runs::{HintedFault, RunFault, run_generate, run_generate_like};
 use command_words::{GenerateOrder, Place, WantedRules};
-use puzzle_drafts::PlainRules;
-use puzzle_maker::MakeFault;
+use puzzle_drafts::{Misfit, PlainRules};
+use puzzle_maker::{Flaw, MakeFault};
 use std::alloc::Global;
 use std::time::Clock;
 
 // What may help where no puzzle that was drawn will do.
-const ADVICE: &str =
-    "of the puzzles that were drawn none will do: more colours may help, or a greater --tries";
+const ADVICE: &str = "more colours may help, clues, another --seed, or a greater --tries";
+
+// What may help where the colours that are to be mates can't be paired.
+const ODD_MATES: &str =
+    "with --border frame, the default, or one, colour 0 has no mate: name an odd number of colours there, and an even one with free or each";
 
 /// Makes a puzzle by the rules that are asked for, or by those of a puzzle, and prints its text.
 pub(crate) fn generate<S: FileSystem, I: Source, W: Sink, R: Clock + Eprint>(
@@ -57,7 +60,7 @@ fn generate_plain<W: Sink, R: Clock + Eprint>(
     let progress = GenerateProgress::new(rt, draft.tries, order.progress);
     match run_generate(alloc, rules, draft, &progress, output) {
         Ok(()) => Ok(Exit::Done),
-        Err(fault) => Err(with_advice(alloc, fault)),
+        Err(fault) => Err(with_advice(alloc, fault, progress.last_flaw())),
     }
 }
 
@@ -102,18 +105,29 @@ fn generate_from<P: Source, W: Sink, R: Clock + Eprint>(
         Ok(()) => Ok(Exit::Done),
         Err(hinted) => match hinted.hint {
             Some(_) => Err(hinted),
-            None => Err(with_advice(alloc, hinted.fault)),
+            None => Err(with_advice(alloc, hinted.fault, progress.last_flaw())),
         },
     }
 }
 
-// The fault, with what may help.
-fn with_advice(alloc: Global, fault: RunFault) -> HintedFault
+// The fault, with what may help where the last puzzle that was drawn has this flaw.
+fn with_advice(alloc: Global, fault: RunFault, flaw: Option<Flaw>) -> HintedFault
     ensures { result.fault ≡ fault }
 {
     let hint = match fault {
-        RunFault::Make(MakeFault::GaveUp) => String::from_str(alloc, ADVICE).ok(),
+        RunFault::Make(MakeFault::GaveUp) => advice(alloc, flaw),
+        RunFault::Make(MakeFault::Misfit(Misfit::OddMates)) => {
+            String::from_str(alloc, ODD_MATES).ok()
+        }
         _ => None,
     };
     HintedFault { fault, hint }
+}
+
+// What may help where no puzzle that was drawn will do, and why the last one won't. `None` where memory is refused.
+fn advice(alloc: Global, flaw: Option<Flaw>) -> Option<String> {
+    let flaw = flaw?;
+    format!(in alloc;
+        "of the puzzles that were drawn none will do, the last for this: {flaw}; {ADVICE}"
+    ).ok()
 }

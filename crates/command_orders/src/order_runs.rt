@@ -6,7 +6,7 @@ ghost use Rattle.byte_streams.specs.Moves.{reading_of, writing_of};
 ghost use Rattle.byte_streams.specs.Origins.{one_source};
 ghost use Rattle.byte_streams.specs.declared.faults.Document.TheVariants as documents;
 ghost use Rattle.command_orders.specs.InputUse.{LeavesInput, are_parts_on_input, is_on_input, is_subject_on_input};
-ghost use Rattle.command_orders.specs.OrderRuns.{IsPlanOf, PictureOf, RunOver, ShowOf, SolveOf, TilesOf, TotalOf};
+ghost use Rattle.command_orders.specs.OrderRuns.{IsPlanOf, PagesOf, PictureOf, RunOver, ShowOf, SolveOf, TilesOf, TotalOf};
 ghost use Rattle.command_orders.specs.OrderRuns.{list_printed, picture_printed, solve_plan_of};
 ghost use Rattle.command_orders.specs.PartFiles.{given_parts, part_files};
 ghost use Rattle.command_orders.specs.PlaceOrigins.{one_place};
@@ -21,7 +21,7 @@ use crate::made_files::{make_files, not_put, replaced};
 use crate::part_files::PartFiles;
 use crate::place_runs::{
     AnswerPlan, DescriptionOrder, DocumentsOrder, DocumentsPlan, Drawing, DrawingOrder, count,
-    describe, draw, find, publish,
+    cut_tiles, describe, draw, find, publish,
 };
 use crate::progress::SolveProgress;
 use crate::streams::Streams;
@@ -30,12 +30,13 @@ use byte_streams::{
     settle,
 };
 use command_runs::{
-    CheckPlan, Description, HintedFault, PagePlan, PicturePlan, Printing, PrintingPlan, RunFault,
-    SearchPlan, SolvePlan, Watched, run_solve_watched, run_tile_lines, run_tiles, run_total,
+    CheckPlan, CutPlan, Description, HintedFault, PagePlan, PicturePlan, Printing, PrintingPlan,
+    RunFault, SearchPlan, SolvePlan, Watched, run_solve_watched, run_tile_lines, run_tiles,
+    run_total,
 };
 use command_words::{
-    CheckOrder, DrawAllOrder, DrawOrder, ExpandOrder, Files, Given, Order, PageOrder, PartPlaces,
-    Place, SolveOrder, Subject, TilesOrder,
+    CheckOrder, CutOrder, DrawAllOrder, DrawOrder, ExpandOrder, Files, Given, Order, PageOrder,
+    PartPlaces, Place, SolveOrder, Subject, TilesOrder,
 };
 use match_limits::{Colours, Forks, Sides, Workers};
 use std::alloc::Global;
@@ -140,6 +141,7 @@ pub fn run_order<
             let drawing = DocumentsOrder::new(rt, alloc, plan);
             drawing.run(&order.given, system, streams.input, streams.output)
         }
+        Order::Cut(order) => pages(alloc, order, system, streams.input, streams.output),
         Order::Symmetries(puzzle) => {
             let order = DescriptionOrder::new(puzzle, Description::Symmetries);
             describe(alloc, &order, system, streams.input, streams.output)
@@ -473,6 +475,37 @@ fn picture<S: FileSystem, I: Source, W: Sink>(
             let order = DrawingOrder {
                 places,
                 drawing: Drawing::Picture(plan),
+            };
+            draw(alloc, &order, system, input, output)
+        }
+    }
+}
+
+// Draws pages of the puzzle's tiles, to be cut out, and with a list an arrangement of it.
+fn pages<S: FileSystem, I: Source, W: Sink>(
+    alloc: Global,
+    order: &CutOrder,
+    system: &S,
+    input: &mut I,
+    output: &mut W,
+) -> Result<Exit, HintedFault>
+    ensures run { PagesOf S.FileSystem S.Reader.Source I.Source system.now input.old input.new order.now.subject
+        order.now.size (writing_of W.Sink output.old output.new) (unhinted result) }
+    ensures unread { LeavesInput (is_subject_on_input order.now.subject) input.old input.new }
+{
+    let plan = CutPlan {
+        size: order.size,
+        numbers: order.numbers,
+    };
+    match &order.subject {
+        Subject::Board(puzzle) => cut_tiles(alloc, puzzle, plan, system, input, output),
+        Subject::Listed { places, number } => {
+            let order = DrawingOrder {
+                places,
+                drawing: Drawing::CutTiles {
+                    number: *number,
+                    plan,
+                },
             };
             draw(alloc, &order, system, input, output)
         }

@@ -6,7 +6,7 @@ ghost use Rattle.byte_streams.specs.Origins.{one_source, two_sources};
 ghost use Rattle.byte_streams.specs.declared.faults.Document.TheVariants as documents;
 ghost use Rattle.command_orders.specs.InputUse.{LeavesInput, is_given_on_input, is_on_input};
 ghost use Rattle.command_orders.specs.InputUse.{is_one_of_two_on_input};
-ghost use Rattle.command_orders.specs.OrderRuns.{CensusOf, CheckOf, DescriptionOf, DocumentsOf, DrawingOf, FindOf};
+ghost use Rattle.command_orders.specs.OrderRuns.{CensusOf, CheckOf, CutTilesOf, DescriptionOf, DocumentsOf, DrawingOf, FindOf};
 ghost use Rattle.command_orders.specs.OrderRuns.{PageOf, PrintingOf};
 ghost use Rattle.command_orders.specs.PlaceOrigins.{given_documents, one_place, two_places};
 ghost use Rattle.command_runs.specs.Runs.{unhinted};
@@ -17,9 +17,9 @@ use crate::given_inputs::{GivenInputs, open_given};
 use crate::progress::{CensusProgress, CheckProgress, FindProgress};
 use byte_streams::{Document, FileSystem, Inputs, OneSink, OwnedDocuments, Sink, Source};
 use command_runs::{
-    CensusPlan, CheckPlan, Description, FindPlan, HintedFault, PagePlan, PicturePlan, PrintingPlan,
-    Watched, run_census, run_check_watched, run_description, run_find, run_listed, run_page,
-    run_picture, run_printing,
+    CensusPlan, CheckPlan, CutPlan, Description, FindPlan, HintedFault, PagePlan, PicturePlan,
+    PrintingPlan, Watched, run_census, run_check_watched, run_cut, run_cut_listed, run_description,
+    run_find, run_listed, run_page, run_picture, run_printing,
 };
 use command_words::{CensusOrder, FindOrder, Given, Place, TwoPlaces};
 use match_limits::ArrangementNumber;
@@ -82,6 +82,43 @@ fn describe_from<P: Source, W: Sink>(
         (writing_of W.Sink output.old output.new) (unhinted result) }
 {
     run_description(alloc, puzzle, description, output)?;
+    Ok(Exit::Done)
+}
+
+// Draws the tiles of the puzzle on pages, to be cut out.
+pub(crate) fn cut_tiles<S: FileSystem, I: Source, W: Sink>(
+    alloc: Global,
+    puzzle: &Place,
+    plan: CutPlan,
+    system: &S,
+    input: &mut I,
+    output: &mut W,
+) -> Result<Exit, HintedFault>
+    ensures run { CutTilesOf plan.size
+        (one_place S.FileSystem S.Reader.Source system.now I.Source input.old input.new puzzle.now)
+        (writing_of W.Sink output.old output.new) (unhinted result) }
+    ensures unread { LeavesInput (is_on_input puzzle.now) input.old input.new }
+{
+    match puzzle {
+        Place::File(file) => {
+            let mut puzzle = open(alloc, system, file, Document::Puzzle)?;
+            cut_tiles_from(alloc, &mut puzzle, plan, output)
+        }
+        Place::Input => cut_tiles_from(alloc, input, plan, output),
+    }
+}
+
+// Draws the tiles of the puzzle that this source has.
+fn cut_tiles_from<P: Source, W: Sink>(
+    alloc: Global,
+    puzzle: &mut P,
+    plan: CutPlan,
+    output: &mut W,
+) -> Result<Exit, HintedFault>
+    ensures { CutTilesOf plan.size (one_source documents.Puzzle (reading_of P.Source puzzle.old puzzle.new))
+        (writing_of W.Sink output.old output.new) (unhinted result) }
+{
+    run_cut(alloc, puzzle, plan, output)?;
     Ok(Exit::Done)
 }
 
@@ -188,6 +225,11 @@ pub(crate) enum Drawing {
     Arrangement(ArrangementNumber),
     // A picture of arrangements.
     Picture(PicturePlan),
+    // Pages of the puzzle's tiles, to be cut out, and of the arrangement with this number.
+    CutTiles {
+        number: ArrangementNumber,
+        plan: CutPlan,
+    },
 }
 
 // A drawing that is ordered.
@@ -247,6 +289,10 @@ fn draw_from<P: Source, L: Source, W: Sink>(
         }
         Drawing::Picture(plan) => {
             run_picture(alloc, puzzle, list, plan, output)?;
+            Ok(Exit::Done)
+        }
+        Drawing::CutTiles { number, plan } => {
+            run_cut_listed(alloc, puzzle, list, number, plan, output)?;
             Ok(Exit::Done)
         }
     }

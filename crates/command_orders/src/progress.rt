@@ -11,6 +11,7 @@ use match_limits::MOST_BYTES;
 use puzzle_maker::{Flaw, MakerWatch};
 use solver::{SolveFault, Watch};
 use std::alloc::Global;
+use std::cell::Cell;
 use std::sync::atomic::{AtomicBool, AtomicU64, Ordering};
 use std::time::{Clock, Instant};
 
@@ -319,11 +320,19 @@ impl<R: Clock + Eprint> FindWatch for FindProgress<'_, R> {
     }
 }
 
-/// Says which of the puzzles that were drawn was the last that won't do, and why.
+/// Says which of the puzzles that were drawn was the last that won't do, and why; and while the arrangements of one are
+/// counted, how many subtrees of that search are done.
 #[derive(Drop)]
 pub struct GenerateProgress<'a, R: Clock + Eprint> {
     turns: Turns<'a, R>,
     tries: u32,
+    // why the last puzzle won't do, if one won't
+    flaw: Cell<Option<Flaw>>,
+    // whether a count has begun; the first is told of at once, since it may be long
+    has_counted: Cell<bool>,
+    subtrees: Cell<u64>,
+    done: Cell<u64>,
+    arrangements: Cell<u64>,
 }
 
 impl<'a, R: Clock + Eprint> GenerateProgress<'a, R> {
@@ -332,12 +341,58 @@ impl<'a, R: Clock + Eprint> GenerateProgress<'a, R> {
         GenerateProgress {
             turns: Turns::new(rt, asked),
             tries,
+            flaw: Cell::new(None),
+            has_counted: Cell::new(false),
+            subtrees: Cell::new(0),
+            done: Cell::new(0),
+            arrangements: Cell::new(0),
         }
+    }
+
+    // Why the last puzzle that was drawn won't do; `None` where none was drawn.
+    pub(crate) fn last_flaw(&self) -> Option<Flaw> {
+        self.flaw.get()
+    }
+
+    // Says how far a count is after so many seconds, if it is to be said.
+    fn tell_of_count(&self, seconds: Option<u64>) {
+        let Some(seconds) = seconds else {
+            return;
+        };
+        let done = self.done.get();
+        let subtrees = self.subtrees.get();
+        let arrangements = self.arrangements.get();
+        let _ = eprintln!(self.turns.rt;
+            "generate: {seconds} s, counts a puzzle's arrangements: {done} of {subtrees} subtrees, {arrangements} arrangements"
+        );
+    }
+}
+
+impl<R: Clock + Eprint> CensusWatch for GenerateProgress<'_, R> {
+    fn begins(&self, branches: usize) {
+        self.subtrees.set(branches as u64);
+        self.done.set(0);
+        self.arrangements.set(0);
+        let seconds = if self.has_counted.get() {
+            self.turns.take()
+        } else {
+            self.turns.passed()
+        };
+        self.has_counted.set(true);
+        self.tell_of_count(seconds);
+    }
+
+    fn counted(&self, arrangements: u64) {
+        self.done.set(self.done.get().saturating_add(1));
+        self.arrangements
+            .set(self.arrangements.get().saturating_add(arrangements));
+        self.tell_of_count(self.turns.take());
     }
 }
 
 impl<R: Clock + Eprint> MakerWatch for GenerateProgress<'_, R> {
     fn failed(&self, number: u32, flaw: Flaw) {
+        self.flaw.set(Some(flaw));
         if let Some(_) = self.turns.take() {
             let tries = self.tries;
             let _ = eprintln!(self.turns.rt; "generate: try {number} of {tries}, {flaw}");

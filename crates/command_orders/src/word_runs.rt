@@ -16,8 +16,8 @@ use crate::streams::Streams;
 use byte_streams::{Document, FileSystem, Refusal, Sink, Source, write_whole};
 use command_runs::{HintedFault, RunFault, fault_text};
 use command_words::{
-    CensusOrder, CheckOrder, DrawAllOrder, DrawOrder, ExpandOrder, Files, FindOrder, Given, Order,
-    PageOrder, PartPlaces, Place, Subject, WantedRules, WordsFault, order,
+    CensusOrder, CheckOrder, CutOrder, DrawAllOrder, DrawOrder, ExpandOrder, Files, FindOrder,
+    Given, Order, PageOrder, PartPlaces, Place, Subject, WantedRules, WordsFault, order,
 };
 use std::alloc::Global;
 use std::random::RandomSource;
@@ -102,7 +102,7 @@ fn is_always_told(order: &Order, fault: &RunFault) -> bool {
         Order::Page(order) => order.hints,
         Order::Explain(_) | Order::ExplainPuzzle(_) | Order::Count(_) => is_of_texts(fault),
         Order::Census(_) | Order::Find(_) | Order::Generate(_) => is_of_texts(fault),
-        Order::Show(_) | Order::Draw(_) | Order::DrawAll(_) => is_of_texts(fault),
+        Order::Show(_) | Order::Draw(_) | Order::DrawAll(_) | Order::Cut(_) => is_of_texts(fault),
         Order::Symmetries(_) | Order::Tiles(_) => is_of_texts(fault),
         // which of many files it is has to be said everywhere
         Order::Total(_) => true,
@@ -172,9 +172,9 @@ fn file_of<'a>(order: &'a Order, document: Document) -> Option<&'a str> {
             WantedRules::Like(place) => file_at(place),
             WantedRules::Plain(_) => None,
         },
-        Order::Show(subject) | Order::Draw(DrawOrder { subject, .. }) => file_of_subject(
-            subject, document,
-        ),
+        Order::Show(subject)
+        | Order::Draw(DrawOrder { subject, .. })
+        | Order::Cut(CutOrder { subject, .. }) => file_of_subject(subject, document),
         Order::Total(_) | Order::Tiles(_) => None,
     }
 }
@@ -241,7 +241,9 @@ fn read_from_input(order: &Order) -> Option<&'static str> {
         },
         Order::Total(PartPlaces::Input) => Some("lines of counted parts"),
         Order::Total(PartPlaces::Files(_)) => None,
-        Order::Show(subject) | Order::Draw(DrawOrder { subject, .. }) => one_of_subject(subject),
+        Order::Show(subject)
+        | Order::Draw(DrawOrder { subject, .. })
+        | Order::Cut(CutOrder { subject, .. }) => one_of_subject(subject),
         Order::Tiles(_) => None,
     }
 }
