@@ -8,7 +8,7 @@ _edgematch() {
     words="check explain find solve expand page count total generate show draw symmetries tiles help --help --version"
   else
     case $before in
-      --all | --clues | --colours | --depth | --easiest | --first | --forks | --fuel | --hardest | --like | --most | --part | --seed | --spare | --title | --tries | --workers) return ;;
+      --all | --clues | --colours | --depth | --easiest | --first | --forks | --fuel | --hardest | --like | --most | --part | --seed | --size | --spare | --title | --tries | --workers) return ;;
       --symmetries)
         mapfile -t COMPREPLY < <(compgen -W "all board" -- "$word")
         return
@@ -33,7 +33,7 @@ _edgematch() {
       total) words="--help" ;;
       generate) words="--like --colours --border --turns --mates --spare --clues --different --unique --tries --hardest --easiest --seed --progress --help" ;;
       show) words="--help" ;;
-      draw) words="--first --all --numbers --help" ;;
+      draw) words="--first --all --numbers --cut --size --help" ;;
       symmetries) words="--help" ;;
       tiles) words="--lines --help" ;;
       help) words="check explain find solve expand page count total generate show draw symmetries tiles help" ;;

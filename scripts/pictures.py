@@ -1,5 +1,6 @@
 #!/usr/bin/env python3
-"""Holds the pictures of `docs/pictures` to what the program draws of the puzzles of `examples/gallery`.
+"""Holds the pictures of `docs/pictures` to what the program draws of the puzzles of `examples/gallery`, and of the
+puzzle that docs/MAKING.md makes.
 
 Each puzzle has a picture of the first arrangement of its list, or of itself where there is none. Some have a sheet of
 their whole list too, or a picture of the empty board. A list is made by `solve` with the options of docs/GALLERY.md, but with one worker, since several list
@@ -17,7 +18,7 @@ import gallery
 from check_cases import program_at
 from gallery import PUZZLES, TOP
 
-PICTURES = os.path.join(TOP, "docs/pictures")
+PICTURES, MAKING = os.path.join(TOP, "docs/pictures"), os.path.join(TOP, "docs/MAKING.md")
 # Puzzles whose tiles are numbered, those that have a sheet too, and those whose empty board is drawn, with its clues.
 NUMBERED, ON_SHEETS = ("nine_cards",), ("nine_cards", "sixteen_cards", "squares_of_two_colours")
 ON_EMPTY_BOARDS = ("bordered_6_by_6_clued",)
@@ -57,6 +58,19 @@ def drawn(program, folder, name, options):
         yield f"{name}_puzzle", said(program, "draw", puzzle)
 
 
+def made(program, folder):
+    """The pictures of the puzzle that docs/MAKING.md makes by its first command, each with its name: of its board and
+    its tiles, and of the arrangement that is found."""
+    with open(MAKING, encoding="utf-8") as page:
+        words = re.search(r"^edgematch (generate .*) > puzzle$", page.read(), re.MULTILINE)[1].split()
+    puzzle, found = (os.path.join(folder, name) for name in ("making", "making.list"))
+    for path, run in ((puzzle, words), (found, ["find", puzzle])):
+        with open(path, "wb") as file:
+            file.write(said(program, *run))
+    yield "making_tiles", said(program, "draw", puzzle)
+    yield "making_solution", said(program, "draw", puzzle, found)
+
+
 def stored_pictures():
     """The pictures that stand there, by their names."""
     stored = {}
@@ -80,6 +94,7 @@ def main():
     given = parser.parse_args()
     with tempfile.TemporaryDirectory() as folder:
         pictures = dict(it for name, words, *_ in gallery.page_rows() for it in drawn(given.program, folder, name, words))
+        pictures.update(made(given.program, folder))
     if given.write:
         write(pictures)
     stored = stored_pictures()

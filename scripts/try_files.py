@@ -567,14 +567,16 @@ def progress_in_the_middle(trial):
     os.mkfifo(trial.path("other"))
     runs = [subprocess.Popen([trial.program, *words, "--progress"], stdout=subprocess.DEVNULL, stderr=subprocess.PIPE,
                              stdin=subprocess.PIPE, cwd=trial.folder)
-            for words in (["check", *three[:2], trial.path("pipe")], ["count", "-"], ["solve", trial.path("other"), "l", "c"])]
-    ends = [opened_to_write(trial.path("pipe")), runs[1].stdin.fileno(), opened_to_write(trial.path("other"))]
+            for words in (["check", *three[:2], trial.path("pipe")], ["count", "-"], ["solve", trial.path("other"), "l", "c"],
+                          ["generate", "--like", "-", "--colours", "9", "--unique", "--seed", "1"])]
+    ends = [opened_to_write(trial.path("pipe")), runs[1].stdin.fileno(), opened_to_write(trial.path("other")),
+            runs[3].stdin.fileno()]
     time.sleep(1.1)
-    for end, text in zip(ends, (CERTIFICATE, SQUARES, SQUARES)):
+    for end, text in zip(ends, (CERTIFICATE, SQUARES, SQUARES, SQUARES)):
         os.write(end, text)
     for end in (ends[0], ends[2]):
         os.close(end)
-    checked, counted, solved = (run.communicate(timeout=LONGEST)[1].decode().splitlines() for run in runs)
+    checked, counted, solved, made = (run.communicate(timeout=LONGEST)[1].decode().splitlines() for run in runs)
     trial.wants("a check, as its first lemma is begun", True, bool(re.fullmatch(r"check: \d+ s, 0 of 1 lemmas", checked[0])))
     form = r"count: (\d+) s, (\d+) of (\d+) subtrees, (\d+) arrangements, about (\d+) s left"
     first, last = (list(map(int, re.fullmatch(form, it).groups())) for it in (counted[0], counted[-1]))
@@ -586,6 +588,8 @@ def progress_in_the_middle(trial):
     trial.wants("lines of a solve alone", True, all(told))
     first, last = (list(map(int, it.groups())) for it in (told[0], told[-1]))
     trial.wants("a solve, in its middle", True, len(told) > 1 and first[0] < last[0] and first[1] <= last[1] and first[2] <= last[2])
+    form = r"generate: \d+ s, counts a puzzle's arrangements: \d+ of \d+ subtrees, \d+ arrangements"
+    trial.wants("a puzzle that is made, as its first subtree is counted", True, bool(re.fullmatch(form, made[0])))
 
 
 def a_closed_input(trial):
