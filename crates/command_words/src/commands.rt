@@ -19,7 +19,7 @@ use std::alloc::{AllocError, Global};
 const NAME: &str = "edgematch";
 
 // The program's version, and the toolchain that it is proved with (the line of `rt version`).
-const VERSION: &str = "0.1.0 (proved with rattle-kit-13b logic dac8208d650f15bf)";
+const VERSION: &str = "0.1.0 (proved with rattle-kit-13f logic dac8208d650f15bf)";
 
 // How an argument is given.
 #[derive(Clone, Copy)]
