@@ -4,7 +4,7 @@ pub(crate) const BEFORE_TITLE: &[u8] = br##"<!DOCTYPE html>
 <html lang="en">
 <head>
 <meta charset="utf-8">
-<meta http-equiv="Content-Security-Policy" content="default-src 'none'; script-src 'sha256-nwzJ7UIChuaO4lXEfuZEQjvuoa4d/d+Av+h6n/ARpjk=' 'sha256-oB5imTH3fULdqh777/IVNrwaiCPZo4N2WxW95ZvLOi8=' 'sha256-rIl9sVfe5WByvoRvQtARBtcicj7vS5B0y7pQMbHqGYk='; style-src 'sha256-wMYy2TeLjTuc/72rgnB0i8wHRr+HD9O0AO8yz3aBXYw='; worker-src blob:; child-src blob:; base-uri 'none'; form-action 'none'">
+<meta http-equiv="Content-Security-Policy" content="default-src 'none'; script-src 'sha256-KXTOP9FgjVwXByVyS+shNGy9kSyvssMjQ4yf14Wq4LI=' 'sha256-oB5imTH3fULdqh777/IVNrwaiCPZo4N2WxW95ZvLOi8=' 'sha256-rIl9sVfe5WByvoRvQtARBtcicj7vS5B0y7pQMbHqGYk='; style-src 'sha256-wMYy2TeLjTuc/72rgnB0i8wHRr+HD9O0AO8yz3aBXYw='; worker-src blob:; child-src blob:; base-uri 'none'; form-action 'none'">
 <meta name="viewport" content="width=device-width, initial-scale=1">
 <meta name="referrer" content="no-referrer">
 <title>"##;
@@ -418,10 +418,22 @@ pub(crate) const LAST: &[u8] = br##"</script>
       return tile * 4 + this.numberIn(dot + 1, to, 3);
     }
 
-    // Takes `T.R`.
+    // Takes `T.R`. What isn't written as it has to be is looked at once more, for its fault.
     placement(cells) {
-      const from = this.at, to = this.word();
-      return this.placementIn(from, this.find(DOT, from, to), to, cells);
+      const { at, bytes } = this;
+      let dot = at, tile = 0;
+      for (let digit = bytes[dot] - ZERO; digit >= 0 && digit <= 9 && tile < cells; digit = bytes[++dot] - ZERO) {
+        tile = tile * 10 + digit;
+      }
+      const turn = bytes[dot + 1] - ZERO, behind = bytes[dot + 2];
+      const isTile = bytes[dot] === DOT && dot > at && (bytes[at] !== ZERO || dot === at + 1) && tile < cells;
+      const isTurn = turn >= 0 && turn <= 3 && (behind === SPACE || behind === LF);
+      if (isTile && isTurn) {
+        this.at = dot + 3;
+        return tile * 4 + turn;
+      }
+      const to = this.word();
+      return this.placementIn(at, this.find(DOT, at, to), to, cells);
     }
 
     // Takes `C:T.R`.
@@ -778,7 +790,7 @@ pub(crate) const LAST: &[u8] = br##"</script>
     const count = text.counted("lemmas", 0, MOST_LEMMAS);
     const firsts = new Uint32Array(count), lengths = new Uint16Array(count), trees = new Uint32Array(count);
     const given = new Uint8Array(count), left = new Uint16Array(limits.levels);
-    let pairs = new Uint32Array(1024), filled = 0, stranger = Infinity, double = Infinity, namesTiles = false;
+    let pairs = new Uint32Array(1024), filled = 0, stranger = Infinity, double = Infinity;
     for (let i = 0; i < count; i++) {
       text.nextLine();
       if ((i & 63) === 0) tell(text.at);
@@ -799,13 +811,13 @@ pub(crate) const LAST: &[u8] = br##"</script>
         lengths[number] = filled - first;
         trees[number] = text.at;
       }
-      if (readTree(text, limits, left, tell)) namesTiles = true;
+      readTree(text, limits, left, tell);
       text.lineDone();
     }
     text.close();
     if (stranger < Infinity) throw new Fault(`certificate: stranger ${stranger}`);
     if (double < Infinity) throw new Fault(`certificate: double ${double}`);
-    return { bytes, symmetries, count, firsts, lengths, pairs, trees, namesTiles };
+    return { bytes, symmetries, count, firsts, lengths, pairs, trees };
   }
 
   function doubled(numbers) {
@@ -827,11 +839,10 @@ pub(crate) const LAST: &[u8] = br##"</script>
 
   const [C, T, D, E, F, S, I] = Array.from("ctdefsi", (letter) => letter.charCodeAt(0));
 
-  // Reads the nodes of a tree; whether one is a `t` or an `e`. `left[level]` is how many children of the branch there
-  // are still to come.
+  // Reads the nodes of a tree. `left[level]` is how many children of the branch there are still to come.
   function readTree(text, limits, left, tell) {
     const { bytes, end } = text, lastCell = limits.cells - 1;
-    let level = 0, namesTiles = false, next = text.at + TOLD_EACH;
+    let level = 0, next = text.at;
     for (;;) {
       const at = text.at;
       if (at > end) throw text.fault("word");
@@ -844,12 +855,10 @@ pub(crate) const LAST: &[u8] = br##"</script>
         case T:
           text.number(0, lastCell);
           left[level++] = text.number(1, limits.children);
-          namesTiles ||= letter === T;
           continue;
         case D:
         case E:
           text.number(0, lastCell);
-          namesTiles ||= letter === E;
           break;
         case F:
           text.number(0, MOST_ARRANGEMENTS - 1);
@@ -865,7 +874,7 @@ pub(crate) const LAST: &[u8] = br##"</script>
           throw text.fault("word");
       }
       while (level > 0 && --left[level - 1] === 0) level--;
-      if (level === 0) return namesTiles;
+      if (level === 0) return;
       if (text.at > next) {
         tell(text.at);
         next = text.at + TOLD_EACH;
@@ -948,50 +957,48 @@ pub(crate) const LAST: &[u8] = br##"</script>
   // The number of the lowest bit that is 1.
   const lowest = (word) => 31 - Math.clz32(word & -word);
 
-  // How many bits of a word are 1.
-  function ones(word) {
-    word -= (word >>> 1) & 0x55555555;
-    word = (word & 0x33333333) + ((word >>> 2) & 0x33333333);
-    return Math.imul((word + (word >>> 4)) & 0x0f0f0f0f, 0x01010101) >>> 24;
-  }
-
   // A board that is being filled, and what fits it. A placement fits a cell where cell and tile are free, and each of
   // its sides shows what is wanted there: what the border or a clue asks, and the mate of what a placed neighbour has.
   //
-  // Sets of placements are words of 32 bits: bit `placement % 32` of word `placement / 32`. What fits a cell is then
-  // what `free` and the four rows of `showing`, one for each side and what is wanted there, have in common. For nodes
-  // `t` and `e` there are sets of cells too: what `empty` and rows of `wanting` have in common fits a tile.
+  // Sets of placements are words of 32 bits, with some tiles in each: a tile has as many bits as tiles have turns. What
+  // fits a cell is then what `free` and the four rows of `showing`, one for each side and what is wanted there, have in
+  // common. For nodes `t` and `e` there are sets of cells too: what `empty` and rows of `wanting` have in common fits a
+  // tile. They are brought up to date where such a node comes, at the cells that were filled or emptied since.
   class Filling {
     constructor(puzzle, list, certificate) {
-      const { cells, sides, tiles, asked, turnsOf, shows, mate } = puzzle;
+      const { cells, sides, tiles, turns, turnsOf, shows, mate } = puzzle, bits = turns ? sides : 1;
+      const inWord = Math.floor(32 / bits);
       Object.assign(this, { puzzle, list, certificate });
       this.at = new Int16Array(cells).fill(-1); // what is placed at a cell, or -1
-      this.used = new Uint8Array(tiles);
-      this.filled = 0;
       this.offers = shows.map((colour) => mate[colour]); // what a neighbour has to show
-      this.words = Math.ceil(tiles / 8);
+      this.words = Math.ceil(tiles / inWord);
+      // Of each tile the word and its bits there, of each bit the placement.
+      this.wordOf = new Uint8Array(tiles);
+      this.bitsOf = new Int32Array(tiles);
+      this.placementOf = new Uint16Array(this.words * 32);
       this.free = new Int32Array(this.words);
       this.showing = new Int32Array(4 * WANTS * this.words);
       const rowOf = (k, colour) => (k * WANTS + colour) * this.words;
       for (let k = 0; k < 4; k++) this.showing.fill(-1, rowOf(k, ANY), rowOf(k, ANY + 1));
       for (let t = 0; t < tiles; t++) {
+        const word = (this.wordOf[t] = Math.floor(t / inWord));
         for (let r = 0; r < turnsOf[t]; r++) {
-          const word = t >> 3, bit = 1 << ((t * 4 + r) & 31);
-          this.free[word] |= bit;
+          const place = (t % inWord) * bits + r, bit = 1 << place;
+          this.placementOf[word * 32 + place] = t * 4 + r;
+          this.bitsOf[t] |= bit;
           for (let k = 0; k < sides; k++) this.showing[rowOf(k, shows[t * 16 + r * 4 + k]) + word] |= bit;
         }
+        this.free[word] |= this.bitsOf[t];
       }
-      this.wanted = new Int32Array(cells * 4).fill(ANY); // what a side has to show; a triangle's fourth side ANY
+      this.wants = new Uint8Array(cells * 4).fill(ANY); // what the sets of cells say of each side
       this.cellWords = Math.ceil(cells / 32);
       this.empty = new Int32Array(this.cellWords);
       this.wanting = new Int32Array(4 * WANTS * this.cellWords);
-      for (let c = 0; c < cells; c++) {
-        this.empty[c >> 5] |= 1 << (c & 31);
-        for (let k = 0; k < 4; k++) {
-          this.flip(c * 4 + k);
-          this.want(c * 4 + k, asked[c * 4 + k]);
-        }
-      }
+      this.changed = new Uint16Array(cells); // cells for which the sets may be out of date
+      this.changes = 0;
+      this.isChanged = new Uint8Array(cells);
+      for (let c = 0; c < cells; c++) this.empty[c >> 5] |= 1 << (c & 31);
+      for (let side = 0; side < cells * 4; side++) this.want(side, this.wanted(side));
       // Of the branch at each level, which is one at most for each cell: the pairs that fit, at most `most` of them,
       // how many children it has, and which of them is looked at.
       this.most = 4 * Math.max(cells, tiles);
@@ -1000,65 +1007,68 @@ pub(crate) const LAST: &[u8] = br##"</script>
       this.child = new Uint16Array(cells);
     }
 
-    // Puts the cell of a side into the set of those that want what it wants, or takes it out.
-    flip(side) {
-      const cell = side >> 2;
-      this.wanting[((side & 3) * WANTS + this.wanted[side]) * this.cellWords + (cell >> 5)] ^= 1 << (cell & 31);
+    // What a side has to show.
+    wanted(side) {
+      const { meets, asked } = this.puzzle, there = meets[side], clue = asked[side];
+      if (there < 0 || this.at[there >> 2] < 0) return clue;
+      const colour = this.offers[this.at[there >> 2] * 4 + (there & 3)];
+      return clue === ANY || clue === colour ? colour : NOTHING_SHOWS;
     }
 
-    // From now on the side has to show this.
+    // From now on the sets of cells say that the side has to show this.
     want(side, colour) {
-      if (this.certificate.namesTiles) {
-        this.flip(side);
-        this.wanted[side] = colour;
-        this.flip(side);
-      } else this.wanted[side] = colour;
+      const { wanting, wants, cellWords } = this, first = (side & 3) * WANTS, bit = 1 << ((side >> 2) & 31);
+      wanting[(first + wants[side]) * cellWords + (side >> 7)] &= ~bit;
+      wanting[(first + colour) * cellWords + (side >> 7)] |= bit;
+      wants[side] = colour;
+    }
+
+    // Brings the sets of cells up to date.
+    followChanges() {
+      const { meets, sides } = this.puzzle, { at, empty, changed, isChanged } = this;
+      for (let i = 0; i < this.changes; i++) {
+        const cell = changed[i], bit = 1 << (cell & 31);
+        isChanged[cell] = 0;
+        if (at[cell] < 0) empty[cell >> 5] |= bit;
+        else empty[cell >> 5] &= ~bit;
+        for (let k = 0; k < sides; k++) {
+          const there = meets[cell * 4 + k];
+          if (there >= 0 && this.wanted(there) !== this.wants[there]) this.want(there, this.wanted(there));
+        }
+      }
+      this.changes = 0;
+    }
+
+    // Fills a cell with a tile, or empties it: the tile is free no longer, or again, and the sets of cells change.
+    change(cell, tile) {
+      this.free[this.wordOf[tile]] ^= this.bitsOf[tile];
+      if (this.isChanged[cell]) return;
+      this.isChanged[cell] = 1;
+      this.changed[this.changes++] = cell;
     }
 
     place(cell, placement) {
-      const { meets, asked, sides } = this.puzzle, tile = placement >> 2;
       this.at[cell] = placement;
-      this.used[tile] = 1;
-      this.filled++;
-      this.free[tile >> 3] &= ~(15 << ((tile & 7) * 4));
-      this.empty[cell >> 5] &= ~(1 << (cell & 31));
-      for (let k = 0; k < sides; k++) {
-        const there = meets[cell * 4 + k];
-        if (there < 0) continue;
-        const colour = this.offers[placement * 4 + k], clue = asked[there];
-        this.want(there, clue === ANY || clue === colour ? colour : NOTHING_SHOWS);
-      }
+      this.change(cell, placement >> 2);
     }
 
-    // Takes away what was placed last.
     lift(cell) {
-      const { meets, asked, sides, turnsOf } = this.puzzle, tile = this.at[cell] >> 2;
+      this.change(cell, this.at[cell] >> 2);
       this.at[cell] = -1;
-      this.used[tile] = 0;
-      this.filled--;
-      this.free[tile >> 3] |= ((1 << turnsOf[tile]) - 1) << ((tile & 7) * 4);
-      this.empty[cell >> 5] |= 1 << (cell & 31);
-      for (let k = 0; k < sides; k++) {
-        const there = meets[cell * 4 + k];
-        if (there >= 0) this.want(there, asked[there]);
-      }
     }
 
-    // Counts the pairs that fit an empty cell, by tile, then turn; they are listed from `begin` on, where it isn't -1.
+    // Counts the pairs that fit an empty cell, by tile, then turn, and lists them from `begin` on.
     fittingAt(cell, begin) {
-      const { wanted, showing, words, free, fits } = this;
-      const row0 = wanted[cell * 4] * words, row1 = (WANTS + wanted[cell * 4 + 1]) * words;
-      const row2 = (2 * WANTS + wanted[cell * 4 + 2]) * words, row3 = (3 * WANTS + wanted[cell * 4 + 3]) * words;
-      let count = 0;
+      const { showing, words, free, fits, placementOf } = this, side = cell * 4;
+      const row0 = this.wanted(side) * words, row1 = (WANTS + this.wanted(side + 1)) * words;
+      const row2 = (2 * WANTS + this.wanted(side + 2)) * words, row3 = (3 * WANTS + this.wanted(side + 3)) * words;
+      let end = begin;
       for (let word = 0; word < words; word++) {
         let set = free[word] & showing[row0 + word] & showing[row1 + word];
         set &= showing[row2 + word] & showing[row3 + word];
-        if (begin < 0) count += ones(set);
-        else {
-          for (; set !== 0; set &= set - 1) fits[begin + count++] = cell * 1024 + word * 32 + lowest(set);
-        }
+        for (; set !== 0; set &= set - 1) fits[end++] = cell * 1024 + placementOf[word * 32 + lowest(set)];
       }
-      return count;
+      return end - begin;
     }
 
     // The cells of a word of 32 that a placement of a free tile fits.
@@ -1072,29 +1082,28 @@ pub(crate) const LAST: &[u8] = br##"</script>
       return set;
     }
 
-    // Counts the pairs with this tile that fit, by cell, then turn; they are listed from `begin` on, where it isn't -1.
+    // Counts the pairs with a free tile that fit, by cell, then turn, and lists them from `begin` on.
     fittingOf(tile, begin) {
       const turns = this.puzzle.turnsOf[tile], sets = [0, 0, 0, 0];
-      let count = 0;
+      this.followChanges();
+      let end = begin;
       for (let word = 0; word < this.cellWords; word++) {
         let some = 0;
         for (let r = 0; r < turns; r++) some |= sets[r] = this.cellsFor(tile * 4 + r, word);
         for (; some !== 0; some &= some - 1) {
           const bit = some & -some, cell = word * 32 + lowest(some);
           for (let r = 0; r < turns; r++) {
-            if ((sets[r] & bit) === 0) continue;
-            if (begin >= 0) this.fits[begin + count] = cell * 1024 + tile * 4 + r;
-            count++;
+            if ((sets[r] & bit) !== 0) this.fits[end++] = cell * 1024 + tile * 4 + r;
           }
         }
       }
-      return count;
+      return end - begin;
     }
 
     // What is wrong with a node by itself, or null. `own` is the number of its lemma. What fits a branch is listed.
     nodeFault(letter, first, second, own, level) {
       const { cells, tiles } = this.puzzle;
-      const begin = letter === C || letter === T ? level * this.most : -1;
+      const begin = level * this.most;
       switch (letter) {
         case C:
         case D:
@@ -1105,10 +1114,10 @@ pub(crate) const LAST: &[u8] = br##"</script>
         case E:
           if (tiles > cells) return "tile-spare";
           if (first >= tiles) return "tile-range";
-          if (this.used[first]) return "tile-taken";
+          if ((this.free[this.wordOf[first]] & this.bitsOf[first]) === 0) return "tile-taken";
           return countFault(letter === T, this.fittingOf(first, begin), second);
         case F:
-          return this.foundFault(first);
+          return this.foundFault(first, own, level);
         case S:
           return first >= own ? "not-earlier" : this.sameFault(first);
         default:
@@ -1118,9 +1127,9 @@ pub(crate) const LAST: &[u8] = br##"</script>
       }
     }
 
-    foundFault(number) {
+    foundFault(number, own, level) {
       const { cells } = this.puzzle, { count, placed } = this.list;
-      if (this.filled !== cells) return "not-whole";
+      if (this.certificate.lengths[own] + level !== cells) return "not-whole";
       if (number >= count) return "list-range";
       for (let c = 0; c < cells; c++) if (placed[number * cells + c] !== this.at[c]) return "not-listed";
       return null;
@@ -1146,7 +1155,7 @@ pub(crate) const LAST: &[u8] = br##"</script>
     // The text was read before, so that its letters and numbers are known to be some.
     treeFault(own, tell) {
       const { fits, most, children, child } = this, { bytes, trees } = this.certificate;
-      let at = trees[own], level = 0, next = at + TOLD_EACH;
+      let at = trees[own], level = 0, next = at;
       for (;;) {
         const letter = bytes[at];
         let first = 0, second = 0;
@@ -1223,7 +1232,7 @@ pub(crate) const LAST: &[u8] = br##"</script>
   function edgematchCheck(puzzleBytes, listBytes, certificateBytes, tell = () => {}) {
     // The certificate is read twice. What is told only rises, though lemmas may stand anywhere.
     const whole = listBytes.length + 2 * certificateBytes.length;
-    let told = 0;
+    let told = -Infinity;
     const tellFrom = (begin) => (at) => {
       if (begin + at < told + whole / 200) return;
       told = begin + at;
