@@ -11,3 +11,4 @@ pub mod FindingLemmas
 pub mod PlaceLemmas
 pub mod SceneLemmas
 pub mod NodeLemmas
+pub mod FittingLemmas

@@ -1,12 +1,14 @@
 //! Walks of trees on several threads: in the first levels, the two halves of a branch's children are walked at the same
 //! time.
 
-ghost use Rattle.std.specs.Prelude.{◌≡◌, ◌≢◌, ◌<◌, ◌≤◌, ◌^◌, List, Option, IfOk, IfSome, None, Ok, Some, length, map};
+ghost use Rattle.std.specs.Prelude.{◌≡◌, ◌≢◌, ◌<◌, ◌≤◌, ◌^◌, ◌∷◌, [], List, Option, IfOk, IfSome, None, Ok, Some};
+ghost use Rattle.std.specs.Prelude.{length, map};
 ghost use Rattle.std.specs.Option.{option_or};
 ghost use Rattle.std.specs.Fn.{FnReturnsAt};
 ghost use Rattle.std.specs.Thread.{IsSync};
 ghost use Rattle.match_limits.specs.First.{IsFirst};
-ghost use Rattle.match_puzzle.specs.Fitting.{IsItem};
+ghost use Rattle.match_puzzle.specs.Fitting.{Fits, IsItem};
+ghost use Rattle.match_puzzle.specs.Prefix.{with_pair};
 ghost use Rattle.match_puzzle.specs.PrefixFaults.{IsPairList};
 ghost use Rattle.match_puzzle.specs.declared.placements.Pair.{Pair};
 ghost use Rattle.cert_tree.specs.Certificate.{flat_piece};
@@ -26,10 +28,10 @@ use crate::gates::{Gate, Open};
 use crate::node_faults::branch_fault;
 use crate::scenes::{branched_on, pairs_from};
 use crate::settings::Setting;
-use crate::walks::{place_first, walk};
+use crate::walks::walk;
 use cert_tree::{Certificate, FlatLemma, Trees};
-use match_limits::MOST_FORKS;
-use match_puzzle::{Arrangement, FittingPairs, Item, Partial, Puzzle};
+use match_limits::{MOST_FORKS, NumberSet};
+use match_puzzle::{Arrangement, FittingPairs, Item, Pair, Partial, Puzzle};
 use puzzle_symmetry::Symmetry;
 use std::alloc::{AllocError, Global};
 use std::thread::Threads;
@@ -201,8 +203,8 @@ fn own_fault(alloc: Global, at: &Branch<'_>, partial: &Partial<'_>) -> Option<Tr
     ensures few { result ≡ None → at.now.children < 2 ^ 16 }
     ensures item { result ≡ None → IsItem partial.now.puzzle at.now.item }
 {
-    let mut pairs = FittingPairs::none(at.item);
-    let of_node = branch_fault(at.item, at.children, partial, &mut pairs)?;
+    let mut numbers = NumberSet::new();
+    let of_node = branch_fault(at.item, at.children, partial, &mut numbers)?;
     Some(TreeFault::at_top(alloc, of_node))
 }
 
@@ -347,6 +349,24 @@ fn walk_children<R: Threads + Sync, G: Gate + Sync>(
         rest.skip();
     }
     Ok(None)
+}
+
+// Places the first of the pairs, and takes it from them.
+fn place_first(pairs: &mut FittingPairs, partial: &mut Partial<'_>) -> Pair
+    requires some { pairs.old ≢ [] }
+    requires fits { (pair : Pair) (rest : List Pair) → pairs.old ≡ pair ∷ rest
+        → Fits partial.old.puzzle partial.old.placed pair.cell pair.placement }
+    ensures taken { pairs.old ≡ result ∷ pairs.new }
+    ensures placed { partial.new ≡ record {
+      puzzle = partial.old.puzzle;
+      placed = with_pair partial.old.placed result.cell result.placement;
+    } }
+{
+    let Some(pair) = pairs.take_first() else {
+        unreachable!();
+    };
+    partial.place(pair.cell, pair.placement);
+    pair
 }
 
 // A fault of the child with this number, as a fault of its parent.

@@ -5,12 +5,14 @@
 mod checks;
 mod crew_checks;
 mod faults;
+mod fitting;
 mod forks;
 mod gates;
 mod jobs;
 mod laws;
 mod list_faults;
 mod node_faults;
+mod pairs_left;
 mod prefixes;
 mod prepared;
 mod questions;

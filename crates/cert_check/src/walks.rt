@@ -16,16 +16,19 @@ ghost use Rattle.cert_check.specs.Walk.{Tells, IsAtTop, below};
 
 use crate::faults::{NodeFault, TreeFault};
 use crate::node_faults::{branch_fault, dead_fault, found_fault, image_fault, same_fault};
+use crate::pairs_left::PairsLeft;
 use crate::settings::Setting;
 use cert_tree::{FlatLemma, Head, Trees};
-use match_puzzle::{FittingPairs, Item, Pair, Partial};
+use match_limits::NumberSet;
+use match_puzzle::{Item, Pair, Partial};
 use std::alloc::{AllocError, Global};
 
 // Whether the first tree holds with these pairs placed. If so, the same pairs are placed afterwards, and the walk has
 // passed the tree; if not, `fault` is its first fault in preorder. Most trees hold, so a fault has a place of its own
 // and is not handed from node to node. Each branch fills a cell for its children, so the walk goes no deeper than one
-// level for each cell and one more.
+// level for each cell and one more. It is inlined into the walk of a branch, which then calls itself alone.
 #[cycle(walk)]
+#[inline(always)]
 pub(crate) fn walk(
     alloc: Global,
     setting: &Setting<'_>,
@@ -75,10 +78,11 @@ fn walk_branch(
     ensures restored { IfOk result (λ holds. fault.new ≡ None → partial.new ≡ partial.old) }
     ensures past { IfOk result (λ holds. fault.new ≡ None → trees.new ≡ past children trees.old) }
 {
-    let mut pairs = FittingPairs::none(item);
-    if let Some(of_node) = branch_fault(item, children, partial, &mut pairs) {
+    let mut numbers = NumberSet::new();
+    if let Some(of_node) = branch_fault(item, children, partial, &mut numbers) {
         return Ok(at_top(alloc, Some(of_node), fault));
     }
+    let mut pairs = PairsLeft::of(item, &numbers);
     for number in 0..children {
         let pair = place_first(&mut pairs, partial);
         if !walk(alloc, setting, trees, partial, fault)? {
@@ -110,7 +114,7 @@ fn leaf_fault(setting: &Setting<'_>, leaf: Head, partial: &Partial<'_>) -> Optio
 
 // Places the first of the pairs, and takes it from them. Walks call this at each node, so it is inlined there.
 #[inline(always)]
-pub(crate) fn place_first(pairs: &mut FittingPairs, partial: &mut Partial<'_>) -> Pair
+fn place_first(pairs: &mut PairsLeft<'_>, partial: &mut Partial<'_>) -> Pair
     requires some { pairs.old ≢ [] }
     requires fits { (pair : Pair) (rest : List Pair) → pairs.old ≡ pair ∷ rest
         → Fits partial.old.puzzle partial.old.placed pair.cell pair.placement }

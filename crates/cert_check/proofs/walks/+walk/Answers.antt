@@ -1,7 +1,8 @@
-use Rattle.std.proofs.Common.{◌≡◌, ◌<◌, ◌≤◌, ◌+◌, ◌-◌, ℕ, suc, IfOk, None, MatchBool, ◌≢◌, arith, ap, sym, ◌∙◌, refl, subst}
+use Rattle.std.proofs.Common.{◌≡◌, ◌<◌, ◌≤◌, ◌+◌, ◌-◌, ℕ, suc, IfOk, None, MatchBool, ◌≢◌, map, arith, ap, sym, ◌∙◌, refl, subst}
 use Rattle.std.proofs.lemmas.Result.{IfOk-from_err}
 use Rattle.match_puzzle.specs.Puzzle.{Task}
 use Rattle.match_puzzle.specs.Prefix.{Layout}
+use Rattle.match_puzzle.specs.Fitting.{numbered_pair}
 use Rattle.cert_tree.specs.Tree.{branch, count}
 use Rattle.cert_tree.specs.Heads.{first, front, past}
 use Rattle.cert_tree.proofs.HeadLemmas.{count-front, past_first, count_first}
@@ -20,12 +21,12 @@ walk_branch-loop-number-init t c =
     let q = c.args.partial.now.placed in
     let trees = front c.args.children c.args.trees.now in
     let many = count-front c.args.children c.args.trees.now c.requires.counted in
-    let pairs = c.branch_fault.new.pairs in
+    let pairs = map (numbered_pair c.args.item) c.branch_fault.new.numbers in
     let is = subst (λ (p : Task). IsBranch p q c.args.item c.args.children pairs) c.requires.made c.in_default.ensures.fault in
     let all : c.args.children ≡ c.args.children - 0 = omega arith in
     record {
       partial = refl;
-      going = subst (λ n. Going s c.args.item q trees 0 (front n c.args.trees.now) pairs) all (going_start s c.args.item q trees pairs (subst (λ n. IsBranch s.puzzle q c.args.item n pairs) (sym many) is));
+      going = subst (λ xs. Going s c.args.item q trees 0 (front (c.args.children - 0) c.args.trees.now) xs) (sym c.of-pairs.ensures) (subst (λ n. Going s c.args.item q trees 0 (front n c.args.trees.now) pairs) all (going_start s c.args.item q trees pairs (subst (λ n. IsBranch s.puzzle q c.args.item n pairs) (sym many) is)));
       past = ap (λ n. past n c.args.trees.now) (sym all);
       no_fault = c.requires.no_fault;
       counted = let h = c.requires.counted in omega arith;
