@@ -18,7 +18,10 @@ use crate::turns::Turn;
 use crate::watches::FindWatch;
 use rand_core::Rng;
 use std::alloc::AllocError;
-use xcc_form::{Chooses, FewestOptions, LeastLeft, OpenOptions, option_behind};
+use xcc_form::{Chooses, FewestOptions, LeastLeftOfFew, OpenOptions, option_behind};
+
+// How many options more than the fewest an item may have, so that it is looked at what they leave.
+const FURTHER: u32 = 4;
 
 /// Lists the arrangements that have all chosen options, until as many are listed as are wanted or the pass is spent. Of
 /// arrangements that symmetries take into each other it lists only the first.
@@ -57,8 +60,8 @@ pub(crate) fn walk<E: OpenOptions, W: FindWatch>(
     }
 }
 
-// The item to branch on. Until something is listed it is the one whose options leave the least, since that leads to a
-// first arrangement soonest; then it is the one with the fewest options, which is chosen in a fraction of the time.
+// The item to branch on. Until something is listed it is one whose options leave little, since that leads to a first
+// arrangement soonest; then it is the one with the fewest options, which is chosen in a fraction of the time.
 fn item_of<E: OpenOptions>(engine: &mut E, progress: &Progress) -> Result<Option<u32>, AllocError>
     ensures same { engine.new ≡ engine.old }
     ensures uncovered { let s = E.selection engine.old in IfOk result (λ o. MatchOption o
@@ -66,7 +69,7 @@ fn item_of<E: OpenOptions>(engine: &mut E, progress: &Progress) -> Result<Option
         (IsUncovered (cover_of s.compiled) s.chosen)) }
 {
     if progress.listed.arrangements.is_empty() {
-        return LeastLeft.choose_item(engine);
+        return LeastLeftOfFew { further: FURTHER }.choose_item(engine);
     }
     FewestOptions.choose_item(engine)
 }

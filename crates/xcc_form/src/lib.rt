@@ -14,7 +14,7 @@ mod numbers;
 mod open_options;
 mod xccs;
 
-pub use chooses::{Chooses, FewestOptions, LeastLeft};
+pub use chooses::{Chooses, FewestOptions, LeastLeft, LeastLeftOfFew};
 pub use edges::Edge;
 pub use faults::{CompileFault, FormFault};
 pub use laws::{compiled_in_one_way, options_are_sets, solutions_are_arrangements};

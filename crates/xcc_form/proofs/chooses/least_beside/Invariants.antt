@@ -2,7 +2,7 @@ use Rattle.std.proofs.Common.{◌≡◌, IfSome}
 use Rattle.xcc_form.specs.Options.{cover_of}
 use Rattle.xcc_form.specs.Chosen.{IsUncovered}
 use Rattle.xcc_form.proofs.NextLemmas.{left_after}
-use Rattle.xcc_form.proofs.chooses.least_left.Given as goal
+use Rattle.xcc_form.proofs.chooses.least_beside.Given as goal
 
 abbrev pub invariant-loop-next : goal.invariant-loop-next
 invariant-loop-next g l = record {
