@@ -4,7 +4,7 @@ pub(crate) const BEFORE_TITLE: &[u8] = br##"<!DOCTYPE html>
 <html lang="en">
 <head>
 <meta charset="utf-8">
-<meta http-equiv="Content-Security-Policy" content="default-src 'none'; script-src 'sha256-KXTOP9FgjVwXByVyS+shNGy9kSyvssMjQ4yf14Wq4LI=' 'sha256-oB5imTH3fULdqh777/IVNrwaiCPZo4N2WxW95ZvLOi8=' 'sha256-rIl9sVfe5WByvoRvQtARBtcicj7vS5B0y7pQMbHqGYk='; style-src 'sha256-wMYy2TeLjTuc/72rgnB0i8wHRr+HD9O0AO8yz3aBXYw='; worker-src blob:; child-src blob:; base-uri 'none'; form-action 'none'">
+<meta http-equiv="Content-Security-Policy" content="default-src 'none'; script-src 'sha256-cVvlPieHF7qElC2X1PhMH8Xm5l7UQf8fJe1UOcKlWrU=' 'sha256-oB5imTH3fULdqh777/IVNrwaiCPZo4N2WxW95ZvLOi8=' 'sha256-rIl9sVfe5WByvoRvQtARBtcicj7vS5B0y7pQMbHqGYk='; style-src 'sha256-wMYy2TeLjTuc/72rgnB0i8wHRr+HD9O0AO8yz3aBXYw='; worker-src blob:; child-src blob:; base-uri 'none'; form-action 'none'">
 <meta name="viewport" content="width=device-width, initial-scale=1">
 <meta name="referrer" content="no-referrer">
 <title>"##;
@@ -312,7 +312,6 @@ pub(crate) const LAST: &[u8] = br##"</script>
   const LF = 10, SPACE = 32, DASH = 45, DOT = 46, ZERO = 48, COLON = 58, HASH = 35;
   const MOST_BYTES = 1073741824, MOST_COLOURS = 36, MOST_LENGTH = 100, MOST_PLACES = 1024;
   const MOST_ARRANGEMENTS = 1000000, MOST_LEMMAS = 1000000, MOST_SYMMETRIES = 1024;
-  const TOLD_EACH = 1048576; // after this many bytes it is told how far the check is
 
   // What a text of each version may have. Only a puzzle has version 3, with the numbers of version 2.
   const SMALL = { cells: 100, asked: 400, children: 400, levels: 101 };
@@ -382,12 +381,12 @@ pub(crate) const LAST: &[u8] = br##"</script>
     // Takes the next word, a number from `least` to `most`.
     number(least, most) {
       if (this.at > this.end) throw this.fault("word");
-      const { at, bytes } = this;
+      const { at, bytes, end } = this;
       let stop = at, value = 0;
       for (let digit = bytes[stop] - ZERO; digit >= 0 && digit <= 9; digit = bytes[++stop] - ZERO) {
         if (value < 10000000) value = value * 10 + digit; // past that it is over each limit, whatever follows
       }
-      const isWord = stop > at && (bytes[stop] === SPACE || bytes[stop] === LF);
+      const isWord = stop > at && (stop === end || bytes[stop] === SPACE);
       if (!isWord || (bytes[at] === ZERO && stop > at + 1)) throw this.fault("number");
       if (value < least || value > most) throw this.fault("limit");
       this.at = stop + 1;
@@ -719,7 +718,7 @@ pub(crate) const LAST: &[u8] = br##"</script>
     let fault = null;
     for (let number = 0; number < count; number++) {
       text.nextLine();
-      if ((number & 1023) === 0) tell(text.at);
+      tell(text.at);
       let length = 0;
       do {
         if (length === most) throw text.fault("limit");
@@ -842,7 +841,7 @@ pub(crate) const LAST: &[u8] = br##"</script>
   // Reads the nodes of a tree. `left[level]` is how many children of the branch there are still to come.
   function readTree(text, limits, left, tell) {
     const { bytes, end } = text, lastCell = limits.cells - 1;
-    let level = 0, next = text.at;
+    let level = 0;
     for (;;) {
       const at = text.at;
       if (at > end) throw text.fault("word");
@@ -875,10 +874,7 @@ pub(crate) const LAST: &[u8] = br##"</script>
       }
       while (level > 0 && --left[level - 1] === 0) level--;
       if (level === 0) return;
-      if (text.at > next) {
-        tell(text.at);
-        next = text.at + TOLD_EACH;
-      }
+      tell(text.at);
     }
   }
 
@@ -966,11 +962,17 @@ pub(crate) const LAST: &[u8] = br##"</script>
   // tile. They are brought up to date where such a node comes, at the cells that were filled or emptied since.
   class Filling {
     constructor(puzzle, list, certificate) {
-      const { cells, sides, tiles, turns, turnsOf, shows, mate } = puzzle, bits = turns ? sides : 1;
+      const { cells, sides, meets, tiles, turns, turnsOf, shows, mate } = puzzle, bits = turns ? sides : 1;
       const inWord = Math.floor(32 / bits);
       Object.assign(this, { puzzle, list, certificate });
       this.at = new Int16Array(cells).fill(-1); // what is placed at a cell, or -1
-      this.offers = shows.map((colour) => mate[colour]); // what a neighbour has to show
+      // Of each side what it asks of the side that it meets, by the mates of what is placed there: four bytes a cell,
+      // which are written at once. Behind the cells stands one that asks nothing, for outer sides.
+      this.asks = new Uint8Array(cells * 4 + 4).fill(ANY);
+      this.asksAt = new Int32Array(this.asks.buffer);
+      this.nothing = this.asksAt[cells];
+      this.offers = new Int32Array(shows.map((colour) => mate[colour]).buffer); // what a placement asks
+      this.across = meets.map((there) => (there < 0 ? cells * 4 : there));
       this.words = Math.ceil(tiles / inWord);
       // Of each tile the word and its bits there, of each bit the placement.
       this.wordOf = new Uint8Array(tiles);
@@ -994,9 +996,9 @@ pub(crate) const LAST: &[u8] = br##"</script>
       this.cellWords = Math.ceil(cells / 32);
       this.empty = new Int32Array(this.cellWords);
       this.wanting = new Int32Array(4 * WANTS * this.cellWords);
-      this.changed = new Uint16Array(cells); // cells for which the sets may be out of date
-      this.changes = 0;
-      this.isChanged = new Uint8Array(cells);
+      // The pairs that are placed, in their order; those by which the sets of cells go; how many first ones are in both.
+      Object.assign(this, { path: new Uint32Array(cells), length: 0 });
+      Object.assign(this, { known: new Uint32Array(cells), knownLength: 0, shared: 0 });
       for (let c = 0; c < cells; c++) this.empty[c >> 5] |= 1 << (c & 31);
       for (let side = 0; side < cells * 4; side++) this.want(side, this.wanted(side));
       // Of the branch at each level, which is one at most for each cell: the pairs that fit, at most `most` of them,
@@ -1009,10 +1011,9 @@ pub(crate) const LAST: &[u8] = br##"</script>
 
     // What a side has to show.
     wanted(side) {
-      const { meets, asked } = this.puzzle, there = meets[side], clue = asked[side];
-      if (there < 0 || this.at[there >> 2] < 0) return clue;
-      const colour = this.offers[this.at[there >> 2] * 4 + (there & 3)];
-      return clue === ANY || clue === colour ? colour : NOTHING_SHOWS;
+      const clue = this.puzzle.asked[side], colour = this.asks[this.across[side]];
+      if (clue === ANY || clue === colour) return colour;
+      return colour === ANY ? clue : NOTHING_SHOWS;
     }
 
     // From now on the sets of cells say that the side has to show this.
@@ -1024,37 +1025,40 @@ pub(crate) const LAST: &[u8] = br##"</script>
     }
 
     // Brings the sets of cells up to date.
-    followChanges() {
-      const { meets, sides } = this.puzzle, { at, empty, changed, isChanged } = this;
-      for (let i = 0; i < this.changes; i++) {
-        const cell = changed[i], bit = 1 << (cell & 31);
-        isChanged[cell] = 0;
-        if (at[cell] < 0) empty[cell >> 5] |= bit;
-        else empty[cell >> 5] &= ~bit;
-        for (let k = 0; k < sides; k++) {
-          const there = meets[cell * 4 + k];
-          if (there >= 0 && this.wanted(there) !== this.wants[there]) this.want(there, this.wanted(there));
-        }
+    followPath() {
+      const { path, known } = this;
+      for (let i = this.shared; i < this.knownLength; i++) this.follow(known[i] >> 10);
+      for (let i = this.shared; i < this.length; i++) this.follow((known[i] = path[i]) >> 10);
+      this.shared = this.knownLength = this.length;
+    }
+
+    // Brings the sets up to date for one cell and what it meets.
+    follow(cell) {
+      const { meets, sides } = this.puzzle, bit = 1 << (cell & 31);
+      if (this.at[cell] < 0) this.empty[cell >> 5] |= bit;
+      else this.empty[cell >> 5] &= ~bit;
+      for (let k = 0; k < sides; k++) {
+        const there = meets[cell * 4 + k];
+        if (there >= 0 && this.wanted(there) !== this.wants[there]) this.want(there, this.wanted(there));
       }
-      this.changes = 0;
     }
 
-    // Fills a cell with a tile, or empties it: the tile is free no longer, or again, and the sets of cells change.
-    change(cell, tile) {
-      this.free[this.wordOf[tile]] ^= this.bitsOf[tile];
-      if (this.isChanged[cell]) return;
-      this.isChanged[cell] = 1;
-      this.changed[this.changes++] = cell;
-    }
-
-    place(cell, placement) {
+    // Places a pair behind those that are placed.
+    place(pair) {
+      const cell = pair >> 10, placement = pair & 1023, tile = placement >> 2;
+      this.path[this.length++] = pair;
       this.at[cell] = placement;
-      this.change(cell, placement >> 2);
+      this.asksAt[cell] = this.offers[placement];
+      this.free[this.wordOf[tile]] &= ~this.bitsOf[tile];
     }
 
-    lift(cell) {
-      this.change(cell, this.at[cell] >> 2);
+    // Lifts the last pair.
+    lift() {
+      const pair = this.path[--this.length], cell = pair >> 10, tile = (pair >> 2) & 255;
+      if (this.shared > this.length) this.shared = this.length;
       this.at[cell] = -1;
+      this.asksAt[cell] = this.nothing;
+      this.free[this.wordOf[tile]] |= this.bitsOf[tile];
     }
 
     // Counts the pairs that fit an empty cell, by tile, then turn, and lists them from `begin` on.
@@ -1085,7 +1089,7 @@ pub(crate) const LAST: &[u8] = br##"</script>
     // Counts the pairs with a free tile that fit, by cell, then turn, and lists them from `begin` on.
     fittingOf(tile, begin) {
       const turns = this.puzzle.turnsOf[tile], sets = [0, 0, 0, 0];
-      this.followChanges();
+      this.followPath();
       let end = begin;
       for (let word = 0; word < this.cellWords; word++) {
         let some = 0;
@@ -1155,7 +1159,7 @@ pub(crate) const LAST: &[u8] = br##"</script>
     // The text was read before, so that its letters and numbers are known to be some.
     treeFault(own, tell) {
       const { fits, most, children, child } = this, { bytes, trees } = this.certificate;
-      let at = trees[own], level = 0, next = at;
+      let at = trees[own], level = 0;
       for (;;) {
         const letter = bytes[at];
         let first = 0, second = 0;
@@ -1170,20 +1174,16 @@ pub(crate) const LAST: &[u8] = br##"</script>
           children[level] = second;
           child[level++] = 0;
         } else {
+          tell(at);
           // Goes up to the next child that is still to be looked at.
           for (;;) {
             if (level === 0) return null;
-            this.lift(fits[(level - 1) * most + child[level - 1]] >> 10);
+            this.lift();
             if (++child[level - 1] < children[level - 1]) break;
             level--;
           }
         }
-        const pair = fits[(level - 1) * most + child[level - 1]];
-        this.place(pair >> 10, pair & 1023);
-        if (at > next) {
-          tell(at);
-          next = at + TOLD_EACH;
-        }
+        this.place(fits[(level - 1) * most + child[level - 1]]);
       }
     }
 
@@ -1193,10 +1193,10 @@ pub(crate) const LAST: &[u8] = br##"</script>
       for (let number = 0; number < count; number++) {
         if ((number & 63) === 0) tell(trees[number]);
         const first = firsts[number], stop = first + lengths[number];
-        for (let i = first; i < stop; i++) this.place(pairs[i] >> 10, pairs[i] & 1023);
+        for (let i = first; i < stop; i++) this.place(pairs[i]);
         const why = this.treeFault(number, tell);
         if (why !== null) return `refused tree ${number} at ${why}`;
-        for (let i = stop - 1; i >= first; i--) this.lift(pairs[i] >> 10);
+        while (this.length > 0) this.lift();
       }
       return null;
     }
