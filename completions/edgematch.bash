@@ -8,9 +8,17 @@ _edgematch() {
     words="check explain find solve expand page count total generate show draw symmetries tiles help --help --version"
   else
     case $before in
-      --all | --clues | --colours | --depth | --easiest | --first | --forks | --fuel | --hardest | --like | --most | --part | --seed | --size | --spare | --title | --tries | --workers) return ;;
+      --all | --clues | --colours | --easiest | --first | --forks | --fuel | --hardest | --like | --most | --part | --seed | --size | --spare | --title | --tries) return ;;
+      --workers)
+        mapfile -t COMPREPLY < <(compgen -W "all" -- "$word")
+        return
+        ;;
       --symmetries)
         mapfile -t COMPREPLY < <(compgen -W "all board" -- "$word")
+        return
+        ;;
+      --depth)
+        mapfile -t COMPREPLY < <(compgen -W "0 1 2 3 auto" -- "$word")
         return
         ;;
       --border)

@@ -258,7 +258,8 @@ def ways_of(wanted):
     """The options that a check is run with: all, where the documents are read, and otherwise some."""
     if wanted.status == 2:
         return [[], ["--workers", "3", "--forks", "2"]]
-    return [[], *(["--workers", str(it), "--forks", str(forks)] for it in WORKERS for forks in FORKS)]
+    numbers = [["--workers", str(it), "--forks", str(forks)] for it in WORKERS for forks in FORKS]
+    return [[], ["--workers", "all"], *numbers]
 
 
 def check(trial, case):
@@ -387,7 +388,7 @@ def count_by_search(trial, number):
     """Counts of the puzzle by a search: so many, by one worker and by several; no more than so many, and more than one
     less; and as the sum of the parts of one split."""
     all_of = b"arrangements %d\n" % number
-    for options in ([], ["--workers", "3"], ["--most", str(number)], ["--most", str(2**64 - 1)]):
+    for options in ([], ["--workers", "3"], ["--workers", "all"], ["--most", str(number)], ["--most", str(2**64 - 1)]):
         got = trial.run(["count", trial.path("puzzle"), *options])
         trial.wants_outcome(" ".join(["count PUZZLE", *options]), Outcome(0, all_of, b""), got)
     if number > 0:
@@ -515,6 +516,7 @@ def solves(trial, count, every=None):
     for depth in DEPTHS:
         for workers in WORKERS:
             solve(trial, ["--depth", str(depth), "--workers", str(workers)], count, every)
+    solve(trial, ["--depth", "auto", "--workers", "all"], count, every)
 
 
 def leaves_colours(line):

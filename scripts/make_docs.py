@@ -18,7 +18,7 @@ TOP = os.path.dirname(HERE)
 # The values that may be completed, by what stands for them in a help.
 VALUES = {
     "WHICH": "all board", "SIDES": "3 4", "KIND": "rect triangle hexagon", "BORDER": "frame one free each",
-    "ANSWER": "yes no",
+    "ANSWER": "yes no", "WORKERS": "all", "DEPTH": "0 1 2 3 auto",
 }
 # What begins a list of rows in a help. All else is prose.
 HEADINGS = {"Commands:", "Arguments:", "Options:", "Exit status:", "Example:", "Examples:"}

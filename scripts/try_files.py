@@ -559,6 +559,18 @@ def workers(trial):
         trial.wants(f"{words[0]}: threads at once", True, most >= 4)
 
 
+def workers_by_processors(trial):
+    """A solve by `--workers all` has a worker for each processor that it may use: one where it is held to one."""
+    own = os.sched_getaffinity(0)
+    words = [trial.program, "solve", *(trial.path(it) for it in ("puzzle", "list", "certificate")), "--workers", "all"]
+    for allowed in ({min(own)}, own):
+        run = subprocess.run(words, capture_output=True, timeout=LONGEST, check=False,
+                             preexec_fn=lambda held=allowed: os.sched_setaffinity(0, held))
+        lines = sum(it.startswith(b"worker ") for it in run.stdout.splitlines())
+        # a quota of the machine may leave fewer than may be used
+        trial.wants(f"workers for {len(allowed)} processors", True, 1 <= lines <= min(len(allowed), 64))
+
+
 def progress_in_the_middle(trial):
     """What is told in the middle of a run is so. Each run waits for a document for a second, and tells how far it is then."""
     three = [trial.path(it) for it in ("puzzle", "list", "certificate")]
@@ -788,7 +800,7 @@ TRIALS = (
     new_files, modes, each_step, owners, two_disks, links, links_in_a_circle, hard_links_of_the_puzzle, two_links_to_nothing,
     pipes, a_log, a_puzzle_on_input, devices, a_full_disk, a_closed_pipe_for_the_report, a_stop_by_a_signal, two_at_once, two_in_rounds,
     a_name_that_leads_elsewhere, a_file_that_another_replaces, a_fault_beside_another_solve, closed_streams, a_closed_input,
-    progress_in_the_middle, an_input_of_another, words_that_are_no_text, a_limit_on_memory, workers, reasons_on_a_terminal, reasons_with_hints,
+    progress_in_the_middle, an_input_of_another, words_that_are_no_text, a_limit_on_memory, workers, workers_by_processors, reasons_on_a_terminal, reasons_with_hints,
     hints_on_a_terminal, what_is_awaited_on_a_terminal, what_is_listed_on_a_terminal, names_of_standard_input,
 )
 

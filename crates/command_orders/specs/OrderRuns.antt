@@ -1,9 +1,12 @@
 -- What an order comes to.
-use Rattle.std.specs.Prelude.{◌≡◌, ◌⊎◌, ℕ, Bool, true, false, List, Option, Result, Err}
+use Rattle.std.specs.Prelude.{◌≡◌, ◌≤◌, ◌⊎◌, ℕ, Bool, true, false, List, Option, Result, Err}
 use Rattle.std.specs.String.{string_bytes}
 use Rattle.command_words.specs.declared.orders.Extent.{Extent}
 use Rattle.command_words.specs.declared.orders.WantedRules.{WantedRules}
 use Rattle.command_words.specs.declared.orders.WantedRules.TheVariants.{Plain, Like}
+use Rattle.command_words.specs.declared.orders.WantedWorkers.{WantedWorkers}
+use Rattle.command_words.specs.declared.orders.WantedWorkers.TheVariants as wanted
+use Rattle.match_limits.specs.declared.TheConstants.{MOST_WORKERS}
 use Rattle.puzzle_drafts.specs.declared.drafts.Draft.{Draft}
 use Rattle.puzzle_drafts.specs.declared.drafts.PlainRules.{PlainRules}
 use Rattle.command_words.specs.declared.orders.Subject.{Subject}
@@ -142,17 +145,19 @@ TilesOf sides colours true output result =
 TilesOf sides colours false output result =
     Runs no_source (ThenDone (TilesGive sides colours)) (TilesFail sides colours) (one_sink output) result
 
--- the plan of a solve that is ordered
-abbrev pub solve_plan_of : SolveOrder → SolvePlan
-solve_plan_of order = record {
-  search = record {
-    depth = order.depth;
-    fuel = order.fuel;
-    workers = order.workers;
-    symmetries = order.symmetries;
-  };
-  check = order.check;
-}
+-- There are as many workers as are asked for: this number of them, or some number where a worker for each processor is
+-- asked for.
+abbrev pub AreWorkersOf : WantedWorkers → (workers : ℕ) → Type 0
+AreWorkersOf wanted.All workers = (1 ≤ workers) × (workers ≤ MOST_WORKERS)
+AreWorkersOf (wanted.Number number) workers = workers ≡ number
+
+-- The plan is that of the solve that is ordered.
+pub record IsSolvePlanOf (order : SolveOrder) (plan : SolvePlan) : Type 0 where
+  pub depth : plan.search.depth ≡ order.depth
+  pub fuel : plan.search.fuel ≡ order.fuel
+  pub workers : AreWorkersOf order.workers plan.search.workers
+  pub symmetries : plan.search.symmetries ≡ order.symmetries
+  pub check : plan.check ≡ order.check
 
 -- What a solve by this plan comes to. It is not begun where two of the files are one, or one can't be made. Where it
 -- put all, and another file is found under a name then, that is its fault.
@@ -248,7 +253,8 @@ module _ {S R W I : Type 0} (system : FileMembers S R W) (source : SourceMembers
           (new ≡ old) × TotalOf (given_parts system source input old given later places) output result
       RunOf (Generate order) result = (new ≡ old) × GenerateOf order.rules order.draft output result
       RunOf (Solve order) result =
-          SolveOf (solve_plan_of order) (one_place system source old input given later order.files.puzzle)
+          (plan : SolvePlan) × IsSolvePlanOf order plan
+          × SolveOf plan (one_place system source old input given later order.files.puzzle)
           (solved_files order.files system.does system.leads old new output)
           (PutsAll order.files system.does old new output) result
       RunOf (Show subject) result = (new ≡ old) × ShowOf subject output result

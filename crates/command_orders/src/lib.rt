@@ -15,6 +15,7 @@ mod progress;
 mod streams;
 mod system_limits;
 mod word_runs;
+mod workers;
 
 pub use command_runs::{HintedFault, RunFault};
 pub use exits::Exit;

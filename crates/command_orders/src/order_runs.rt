@@ -6,8 +6,8 @@ ghost use Rattle.byte_streams.specs.Moves.{reading_of, writing_of};
 ghost use Rattle.byte_streams.specs.Origins.{one_source};
 ghost use Rattle.byte_streams.specs.declared.faults.Document.TheVariants as documents;
 ghost use Rattle.command_orders.specs.InputUse.{LeavesInput, are_parts_on_input, is_on_input, is_subject_on_input};
-ghost use Rattle.command_orders.specs.OrderRuns.{IsPlanOf, PagesOf, PictureOf, RunOver, ShowOf, SolveOf, TilesOf, TotalOf};
-ghost use Rattle.command_orders.specs.OrderRuns.{list_printed, picture_printed, solve_plan_of};
+ghost use Rattle.command_orders.specs.OrderRuns.{IsPlanOf, IsSolvePlanOf, PagesOf, PictureOf, RunOver, ShowOf, SolveOf, TilesOf};
+ghost use Rattle.command_orders.specs.OrderRuns.{TotalOf, list_printed, picture_printed};
 ghost use Rattle.command_orders.specs.PartFiles.{given_parts, part_files};
 ghost use Rattle.command_orders.specs.PlaceOrigins.{one_place};
 ghost use Rattle.command_runs.specs.Runs.{unhinted};
@@ -25,6 +25,7 @@ use crate::place_runs::{
 };
 use crate::progress::SolveProgress;
 use crate::streams::Streams;
+use crate::workers::workers_of;
 use byte_streams::{
     Document, FileSystem, MadeFiles, OneSource, ProductNames, Sink, Source, ThreeSinks, Unsettled,
     settle,
@@ -85,16 +86,22 @@ pub fn run_order<
             check.run(&Given::Joined, system, streams.input, streams.output)
         }
         Order::Check(order) => {
-            let plan = DocumentsPlan::Answer(answer_plan(order, is_watched));
+            let plan = DocumentsPlan::Answer(answer_plan(rt, order, is_watched));
             let check = DocumentsOrder::new(rt, alloc, plan);
             check.run(&order.given, system, streams.input, streams.output)
         }
         Order::Solve(order) => {
+            let ordered = OrderedSolve {
+                plan: solve_plan(rt, order),
+                progress: order.progress,
+                hints: are_told(order.hints, is_watched),
+            };
+            let files = &order.files;
             solve(
                 rt,
                 alloc,
-                order,
-                is_watched,
+                files,
+                ordered,
                 system,
                 streams.input,
                 streams.output,
@@ -183,10 +190,10 @@ fn plain(is_watched: bool) -> AnswerPlan {
 
 // How an ordered check goes. Where somebody watches on a terminal, it says there what has to be changed, and what the
 // listed arrangements stand for.
-fn answer_plan(order: &CheckOrder, is_watched: bool) -> AnswerPlan {
+fn answer_plan<R: Threads>(rt: &R, order: &CheckOrder, is_watched: bool) -> AnswerPlan {
     AnswerPlan {
         check: CheckPlan {
-            workers: order.workers,
+            workers: workers_of(rt, order.workers),
             forks: order.forks,
         },
         progress: order.progress,
@@ -195,14 +202,14 @@ fn answer_plan(order: &CheckOrder, is_watched: bool) -> AnswerPlan {
     }
 }
 
-// How a solve goes that is ordered.
-fn solve_plan(order: &SolveOrder) -> SolvePlan
-    ensures { result ≡ solve_plan_of order.now }
+// The plan of a solve that is ordered.
+fn solve_plan<R: Threads>(rt: &R, order: &SolveOrder) -> SolvePlan
+    ensures { IsSolvePlanOf order.now result }
 {
     let search = SearchPlan {
         depth: order.depth,
         fuel: order.fuel,
-        workers: order.workers,
+        workers: workers_of(rt, order.workers),
         symmetries: order.symmetries,
     };
     SolvePlan {
@@ -211,29 +218,38 @@ fn solve_plan(order: &SolveOrder) -> SolvePlan
     }
 }
 
+// How a solve goes that is ordered.
+#[derive(Clone, Copy)]
+struct OrderedSolve {
+    plan: SolvePlan,
+    // Whether it says meanwhile how far it is.
+    progress: bool,
+    hints: bool,
+}
+
 // Solves the puzzle that stands at its place. Opens its file before the other two are made.
 fn solve<S: FileSystem, I: Source, W: Sink, R: Threads + Wait + Sync + Clock + Eprint>(
     rt: &R,
     alloc: Global,
-    order: &SolveOrder,
-    is_watched: bool,
+    files: &Files,
+    ordered: OrderedSolve,
     system: &mut S,
     input: &mut I,
     output: &mut W,
 ) -> Result<Exit, HintedFault>
-    ensures run { SolveOf (solve_plan_of order.now)
-        (one_place S.FileSystem S.Reader.Source system.old I.Source input.old input.new order.now.files.puzzle)
-        (solved_files order.now.files S.does S.leads system.old system.new (writing_of W.Sink output.old output.new))
-        (PutsAll order.now.files S.does system.old system.new (writing_of W.Sink output.old output.new))
+    ensures run { SolveOf ordered.plan
+        (one_place S.FileSystem S.Reader.Source system.old I.Source input.old input.new files.now.puzzle)
+        (solved_files files.now S.does S.leads system.old system.new (writing_of W.Sink output.old output.new))
+        (PutsAll files.now S.does system.old system.new (writing_of W.Sink output.old output.new))
         (unhinted result) }
-    ensures unread { LeavesInput (is_on_input order.now.files.puzzle) input.old input.new }
+    ensures unread { LeavesInput (is_on_input files.now.puzzle) input.old input.new }
 {
-    match &order.files.puzzle {
+    match &files.puzzle {
         Place::File(name) => {
             let mut puzzle = open(alloc, system, name, Document::Puzzle)?;
-            solve_from(rt, alloc, order, is_watched, system, &mut puzzle, output)
+            solve_from(rt, alloc, files, ordered, system, &mut puzzle, output)
         }
-        Place::Input => solve_from(rt, alloc, order, is_watched, system, input, output),
+        Place::Input => solve_from(rt, alloc, files, ordered, system, input, output),
     }
 }
 
@@ -242,19 +258,18 @@ fn solve<S: FileSystem, I: Source, W: Sink, R: Threads + Wait + Sync + Clock + E
 fn solve_from<S: FileSystem, P: Source, W: Sink, R: Threads + Wait + Sync + Clock + Eprint>(
     rt: &R,
     alloc: Global,
-    order: &SolveOrder,
-    is_watched: bool,
+    files: &Files,
+    ordered: OrderedSolve,
     system: &mut S,
     puzzle: &mut P,
     output: &mut W,
 ) -> Result<Exit, HintedFault>
-    ensures { SolveOf (solve_plan_of order.now)
+    ensures { SolveOf ordered.plan
         (one_source documents.Puzzle (reading_of P.Source puzzle.old puzzle.new))
-        (solved_files order.now.files S.does S.leads system.old system.new (writing_of W.Sink output.old output.new))
-        (PutsAll order.now.files S.does system.old system.new (writing_of W.Sink output.old output.new))
+        (solved_files files.now S.does S.leads system.old system.new (writing_of W.Sink output.old output.new))
+        (PutsAll files.now S.does system.old system.new (writing_of W.Sink output.old output.new))
         (unhinted result) }
 {
-    let files = &order.files;
     if !are_apart(alloc, files, system)? {
         return Err(not_apart(alloc, files, system));
     }
@@ -263,11 +278,11 @@ fn solve_from<S: FileSystem, P: Source, W: Sink, R: Threads + Wait + Sync + Cloc
         certificate: &files.certificate,
     };
     let mut made = make_files(alloc, &names, system)?;
-    let progress = SolveProgress::new(rt, order.progress);
+    let progress = SolveProgress::new(rt, ordered.progress);
     let search = Watched {
-        plan: solve_plan(order),
+        plan: ordered.plan,
         watch: &progress,
-        hints: are_told(order.hints, is_watched),
+        hints: ordered.hints,
     };
     let solved = run_solve_watched(
         rt,

@@ -15,6 +15,7 @@ use crate::exits::Exit;
 use crate::files::open;
 use crate::given_inputs::{GivenInputs, open_given};
 use crate::progress::{CensusProgress, CheckProgress, FindProgress};
+use crate::workers::workers_of;
 use byte_streams::{Document, FileSystem, Inputs, OneSink, OwnedDocuments, Sink, Source};
 use command_runs::{
     CensusPlan, CheckPlan, CutPlan, Description, FindPlan, HintedFault, PagePlan, PicturePlan,
@@ -158,7 +159,7 @@ fn count_from<P: Source, W: Sink, R: Threads + Sync + Clock + Eprint>(
 {
     let plan = CensusPlan {
         extent: order.extent,
-        workers: order.workers,
+        workers: workers_of(rt, order.workers),
         watch: &CensusProgress::new(rt, order.progress),
     };
     run_census(rt, alloc, puzzle, &plan, output)?;
@@ -209,7 +210,7 @@ fn find_from<P: Source, W: Sink, R: Threads + Sync + RandomSource + Clock + Epri
         first: order.first,
         orbits: order.orbits,
         seed: order.seed,
-        workers: order.workers,
+        workers: workers_of(rt, order.workers),
         watch: &FindProgress::new(rt, order.progress),
     };
     run_find(rt, alloc, puzzle, &plan, output)?;

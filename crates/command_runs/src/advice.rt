@@ -88,9 +88,12 @@ fn has_symmetries(alloc: Global, puzzle: &Puzzle, plan: &SearchPlan) -> bool {
     }
 }
 
-// Whether a greater depth than this may be asked for.
+// Whether a greater depth than this may be asked for. A solver that chooses takes the greatest where that may help.
 fn may_be_deeper(plan: &SearchPlan) -> bool {
-    plan.depth.get() < u32::from(MOST_DEPTH)
+    match plan.depth {
+        Some(depth) => depth.get() < u32::from(MOST_DEPTH),
+        None => false,
+    }
 }
 
 // What may help where the fuel ran out, and no more arrangements are expected than a list can have.

@@ -76,7 +76,7 @@ pub fn run_solve<R: Threads + Wait + Sync, P: Source, L: Sink, C: Sink, W: Sink>
         report: writer,
     };
     let search = SearchPlan {
-        depth,
+        depth: Some(depth),
         fuel,
         workers,
         symmetries: Suggested::All,

@@ -19,9 +19,6 @@ passing name rows m is = passing_at name name rows (entered name rows m) refl is
 check_needed : (rows : List Row) → AreMatchesOf (codes "check") rows → HasNeeded (command_at (codes "check")) rows
 check_needed rows m = needed (codes "check") rows m refl
 
-pub check_workers : (rows : List Row) → AreMatchesOf (codes "check") rows → HasNumber (codes "workers") 1 64 rows
-check_workers rows m = has_number (command_at (codes "check")) rows (rule_at (command_at (codes "check")) 3) 1 64 (check_needed rows m) refl refl refl
-
 pub check_forks : (rows : List Row) → AreMatchesOf (codes "check") rows → HasNumber (codes "forks") 0 6 rows
 check_forks rows m = has_number (command_at (codes "check")) rows (rule_at (command_at (codes "check")) 4) 0 6 (check_needed rows m) refl refl refl
 
@@ -48,9 +45,6 @@ find_orbits rows m = has_flag (command_at (codes "find")) rows (rule_at (command
 pub find_seed : (rows : List Row) → AreMatchesOf (codes "find") rows → HasNumber (codes "seed") 0 18446744073709551615 rows
 find_seed rows m = has_number (command_at (codes "find")) rows (rule_at (command_at (codes "find")) 4) 0 18446744073709551615 (find_needed rows m) refl refl refl
 
-pub find_workers : (rows : List Row) → AreMatchesOf (codes "find") rows → HasNumber (codes "workers") 1 64 rows
-find_workers rows m = has_number (command_at (codes "find")) rows (rule_at (command_at (codes "find")) 5) 1 64 (find_needed rows m) refl refl refl
-
 pub find_progress : (rows : List Row) → AreMatchesOf (codes "find") rows → HasFlag (codes "progress") rows
 find_progress rows m = has_flag (command_at (codes "find")) rows (rule_at (command_at (codes "find")) 6) (find_needed rows m) refl refl refl
 
@@ -62,14 +56,8 @@ solve_needed rows m = needed (codes "solve") rows m refl
 pub solve_files : (rows : List Row) → AreMatchesOf (codes "solve") rows → HasFiles rows
 solve_files rows m = has_files (command_at (codes "solve")) rows (solve_needed rows m) refl refl refl
 
-pub solve_depth : (rows : List Row) → AreMatchesOf (codes "solve") rows → HasNumber (codes "depth") 0 3 rows
-solve_depth rows m = has_number (command_at (codes "solve")) rows (rule_at (command_at (codes "solve")) 3) 0 3 (solve_needed rows m) refl refl refl
-
 pub solve_fuel : (rows : List Row) → AreMatchesOf (codes "solve") rows → HasNumber (codes "fuel") 1 1000000 rows
 solve_fuel rows m = has_number (command_at (codes "solve")) rows (rule_at (command_at (codes "solve")) 4) 1 1000000 (solve_needed rows m) refl refl refl
-
-pub solve_workers : (rows : List Row) → AreMatchesOf (codes "solve") rows → HasNumber (codes "workers") 1 64 rows
-solve_workers rows m = has_number (command_at (codes "solve")) rows (rule_at (command_at (codes "solve")) 5) 1 64 (solve_needed rows m) refl refl refl
 
 pub solve_check : (rows : List Row) → AreMatchesOf (codes "solve") rows → HasFlag (codes "check") rows
 solve_check rows m = has_flag (command_at (codes "solve")) rows (rule_at (command_at (codes "solve")) 7) (solve_needed rows m) refl refl refl
@@ -109,9 +97,6 @@ page_hints rows m = has_flag (command_at (codes "page")) rows (rule_at (command_
 
 count_needed : (rows : List Row) → AreMatchesOf (codes "count") rows → HasNeeded (command_at (codes "count")) rows
 count_needed rows m = needed (codes "count") rows m refl
-
-pub count_workers : (rows : List Row) → AreMatchesOf (codes "count") rows → HasNumber (codes "workers") 1 64 rows
-count_workers rows m = has_number (command_at (codes "count")) rows (rule_at (command_at (codes "count")) 3) 1 64 (count_needed rows m) refl refl refl
 
 pub count_most : (rows : List Row) → AreMatchesOf (codes "count") rows → MayHaveNumber (codes "most") 0 18446744073709551615 rows
 count_most rows m = may_have_number (command_at (codes "count")) rows (rule_at (command_at (codes "count")) 4) 0 18446744073709551615 (passing (codes "count") rows m refl) refl refl

@@ -27,7 +27,7 @@ module _ (rows : List Row) where
 
   -- words that ask nothing of a search order nothing
   pub no_extent : ((extent : Extent) → IsExtent rows extent → ⊥) → (order : Order) → IsOrderOf (Some (codes "count", rows)) order → ⊥
-  no_extent none = no_count rows (λ given is all. none extents.All all) (λ puzzle extent alone is. none extent is)
+  no_extent none = no_count rows (λ given is all has. none extents.All all) (λ puzzle extent alone is has. none extent is)
 
   -- a search of which something is asked is none of all
   pub asks_some : (extent : Extent) → extent ≢ extents.All → IsExtent rows extent → IsExtent rows extents.All → ⊥

@@ -4,7 +4,7 @@ use Rattle.std.specs.Str.{bytes_eq}
 use Rattle.std.proofs.lemmas.Slice.Eq.{bytes_eq-Decides}
 use Rattle.clap.specs.Words.{Row, Text, first_of}
 use Rattle.command_words.specs.Asked.{AreAskedFor, IsAsked, MayStandAt}
-use Rattle.command_words.specs.Orders.{ArePlaces, AreWantedRules, AreWritable, AskFor, AskForCut, AskForOrbits, IsDraft, IsExtent, IsFlagged, IsGiven, IsMisfit, IsOrderOf, IsPlace, IsSubject, NameFiles, NamesPuzzle, TellsOfMisfit}
+use Rattle.command_words.specs.Orders.{ArePlaces, AreWantedRules, AreWritable, AskFor, AskForCut, AskForOrbits, AskForWorkers, AsksForNoSearch, HasWorkers, IsDraft, IsExtent, IsFlagged, IsGiven, IsMisfit, IsOrderOf, IsPlace, IsSubject, NameFiles, NamesPuzzle, TellsOfMisfit}
 use Rattle.command_words.specs.Places.{AreTwoOnInput}
 use Rattle.command_words.specs.declared.faults.WordsFault.{WordsFault}
 use Rattle.command_words.specs.declared.faults.WordsFault.TheVariants.{Words, Memory}
@@ -14,6 +14,7 @@ use Rattle.command_words.specs.declared.orders.Order.{Order}
 use Rattle.command_words.specs.declared.orders.Order.TheVariants as orders
 use Rattle.command_words.specs.declared.orders.Subject.{Subject}
 use Rattle.command_words.specs.declared.orders.WantedRules.{WantedRules}
+use Rattle.command_words.specs.declared.orders.WantedWorkers.{WantedWorkers}
 use Rattle.puzzle_drafts.specs.declared.drafts.Draft.{Draft}
 use Rattle.command_words.specs.declared.orders.Subject.TheVariants.{Board, Listed}
 use Rattle.command_words.specs.declared.places.Files.{Files}
@@ -36,8 +37,8 @@ differ name other differs_so is = true_is_false (sym ((bytes_eq-Decides name oth
 -- ---- orders of a command
 
 -- none where there is no count by a list, and none by a search
-pub no_count : (rows : List Row) → ((given : Given) → IsGiven rows given → IsExtent rows extents.All → ⊥)
-    → ((puzzle : Place) (extent : Extent) → NamesPuzzle rows puzzle → IsExtent rows extent → ⊥)
+pub no_count : (rows : List Row) → ((given : Given) → IsGiven rows given → IsExtent rows extents.All → HasWorkers rows → ⊥)
+    → ((puzzle : Place) (extent : Extent) → NamesPuzzle rows puzzle → IsExtent rows extent → HasWorkers rows → ⊥)
     → (order : Order) → IsOrderOf (Some (codes "count", rows)) order → ⊥
 no_count rows listed searched orders.Joined is = is
 no_count rows listed searched (orders.Check order) is = differ (codes "count") (codes "check") refl is.0
@@ -47,8 +48,8 @@ no_count rows listed searched (orders.Find order) is = differ (codes "count") (c
 no_count rows listed searched (orders.Solve order) is = differ (codes "count") (codes "solve") refl is.0
 no_count rows listed searched (orders.Expand order) is = differ (codes "count") (codes "expand") refl is.0
 no_count rows listed searched (orders.Page order) is = differ (codes "count") (codes "page") refl is.0
-no_count rows listed searched (orders.Count given) is = listed given is.1 is.2
-no_count rows listed searched (orders.Census order) is = searched order.puzzle order.extent is.1 is.2
+no_count rows listed searched (orders.Count given) is = listed given is.1 is.2 is.3
+no_count rows listed searched (orders.Census order) is = searched order.puzzle order.extent is.1 is.2 (order.workers, is.3)
 no_count rows listed searched (orders.Total parts) is = differ (codes "count") (codes "total") refl is.0
 no_count rows listed searched (orders.Generate order) is = differ (codes "count") (codes "generate") refl is.0
 no_count rows listed searched (orders.Show subject) is = differ (codes "count") (codes "show") refl is.0
@@ -58,15 +59,42 @@ no_count rows listed searched (orders.Cut order) is = differ (codes "count") (co
 no_count rows listed searched (orders.Symmetries puzzle) is = differ (codes "count") (codes "symmetries") refl is.0
 no_count rows listed searched (orders.Tiles order) is = differ (codes "count") (codes "tiles") refl is.0
 
+-- none of a check that asks for no workers
+pub no_check : (rows : List Row) → (HasWorkers rows → ⊥) → (order : Order) → IsOrderOf (Some (codes "check", rows)) order → ⊥
+no_check rows none orders.Joined is = is
+no_check rows none (orders.Check order) is = none (order.workers, is.2)
+no_check rows none (orders.Explain given) is = differ (codes "check") (codes "explain") refl is.0
+no_check rows none (orders.ExplainPuzzle puzzle) is = differ (codes "check") (codes "explain") refl is.0
+no_check rows none (orders.Find order) is = differ (codes "check") (codes "find") refl is.0
+no_check rows none (orders.Solve order) is = differ (codes "check") (codes "solve") refl is.0
+no_check rows none (orders.Expand order) is = differ (codes "check") (codes "expand") refl is.0
+no_check rows none (orders.Page order) is = differ (codes "check") (codes "page") refl is.0
+no_check rows none (orders.Count given) is = differ (codes "check") (codes "count") refl is.0
+no_check rows none (orders.Census order) is = differ (codes "check") (codes "count") refl is.0
+no_check rows none (orders.Total parts) is = differ (codes "check") (codes "total") refl is.0
+no_check rows none (orders.Generate order) is = differ (codes "check") (codes "generate") refl is.0
+no_check rows none (orders.Show subject) is = differ (codes "check") (codes "show") refl is.0
+no_check rows none (orders.Draw order) is = differ (codes "check") (codes "draw") refl is.0
+no_check rows none (orders.DrawAll order) is = differ (codes "check") (codes "draw") refl is.0
+no_check rows none (orders.Cut order) is = differ (codes "check") (codes "draw") refl is.0
+no_check rows none (orders.Symmetries puzzle) is = differ (codes "check") (codes "symmetries") refl is.0
+no_check rows none (orders.Tiles order) is = differ (codes "check") (codes "tiles") refl is.0
+
+-- none of a count that asks for no workers
+pub counted_by_nobody : (rows : List Row) → (HasWorkers rows → ⊥) → (order : Order) → IsOrderOf (Some (codes "count", rows)) order → ⊥
+counted_by_nobody rows none = no_count rows (λ given is all has. none has) (λ puzzle extent alone is has. none has)
+
 -- none where there is no solve
-no_solve : (rows : List Row) → ((files : Files) (symmetries : Suggested) → NameFiles rows files → AreWritable files → AskFor rows symmetries → ⊥)
+no_solve : (rows : List Row)
+    → ((files : Files) → NameFiles rows files → AreWritable files → (AsksForNoSearch rows → ⊥) → ⊥)
     → (order : Order) → IsOrderOf (Some (codes "solve", rows)) order → ⊥
 no_solve rows none orders.Joined is = is
 no_solve rows none (orders.Check order) is = differ (codes "solve") (codes "check") refl is.0
 no_solve rows none (orders.Explain given) is = differ (codes "solve") (codes "explain") refl is.0
 no_solve rows none (orders.ExplainPuzzle puzzle) is = differ (codes "solve") (codes "explain") refl is.0
 no_solve rows none (orders.Find order) is = differ (codes "solve") (codes "find") refl is.0
-no_solve rows none (orders.Solve order) is = none order.files order.symmetries is.1 is.2 is.6
+no_solve rows none (orders.Solve order) is =
+    none order.files is.1 is.2 (λ nothing. nothing order.depth order.workers order.symmetries is.3 is.5 is.6)
 no_solve rows none (orders.Expand order) is = differ (codes "solve") (codes "expand") refl is.0
 no_solve rows none (orders.Page order) is = differ (codes "solve") (codes "page") refl is.0
 no_solve rows none (orders.Count given) is = differ (codes "solve") (codes "count") refl is.0
@@ -82,22 +110,22 @@ no_solve rows none (orders.Tiles order) is = differ (codes "solve") (codes "tile
 
 -- none of a solve whose list or certificate has the name of standard input
 pub not_writable : (rows : List Row) (files : Files) → NameFiles rows files → (AreWritable files → ⊥) → (order : Order) → IsOrderOf (Some (codes "solve", rows)) order → ⊥
-not_writable rows files named not = no_solve rows (λ other symmetries names writable asked. not (record {
+not_writable rows files named not = no_solve rows (λ other names writable asked. not (record {
   list = λ same. writable.list (some_is (sym names.list ∙ named.list) ∙ same);
   certificate = λ same. writable.certificate (some_is (sym names.certificate ∙ named.certificate) ∙ same);
 }))
 
--- none of a solve that asks for no symmetries
-pub not_suggested : (rows : List Row) → ((symmetries : Suggested) → AskFor rows symmetries → ⊥) → (order : Order) → IsOrderOf (Some (codes "solve", rows)) order → ⊥
-not_suggested rows none = no_solve rows (λ files symmetries names writable asked. none symmetries asked)
+-- none of a solve that asks for no search
+pub not_searched : (rows : List Row) → AsksForNoSearch rows → (order : Order) → IsOrderOf (Some (codes "solve", rows)) order → ⊥
+not_searched rows none = no_solve rows (λ files names writable asked. asked none)
 
--- none of a find that doesn't say by which orbits it goes
-pub no_find : (rows : List Row) → ((orbits : Option Suggested) → AskForOrbits rows orbits → ⊥) → (order : Order) → IsOrderOf (Some (codes "find", rows)) order → ⊥
+-- none of a find that doesn't say by which orbits it goes, or by how many workers
+pub no_find : (rows : List Row) → ((orbits : Option Suggested) → AskForOrbits rows orbits → HasWorkers rows → ⊥) → (order : Order) → IsOrderOf (Some (codes "find", rows)) order → ⊥
 no_find rows none orders.Joined is = is
 no_find rows none (orders.Check order) is = differ (codes "find") (codes "check") refl is.0
 no_find rows none (orders.Explain given) is = differ (codes "find") (codes "explain") refl is.0
 no_find rows none (orders.ExplainPuzzle puzzle) is = differ (codes "find") (codes "explain") refl is.0
-no_find rows none (orders.Find order) is = none order.orbits is.3
+no_find rows none (orders.Find order) is = none order.orbits is.3 (order.workers, is.5)
 no_find rows none (orders.Solve order) is = differ (codes "find") (codes "solve") refl is.0
 no_find rows none (orders.Expand order) is = differ (codes "find") (codes "expand") refl is.0
 no_find rows none (orders.Page order) is = differ (codes "find") (codes "page") refl is.0
@@ -178,6 +206,10 @@ named_at rows id text is none = none_is_some (sym none ∙ is)
 pub misfits : (name : Text) (rows : List Row) (fault : WordsFault) → TellsOfMisfit fault → ((order : Order) → IsOrderOf (Some (name, rows)) order → ⊥) → IsMisfit (Some (name, rows)) fault
 misfits name rows (Words error) tells none = (none, tells)
 misfits name rows Memory tells none = tt
+
+-- no workers are asked for by a word that asks for none
+pub no_workers : (rows : List Row) → ((workers : WantedWorkers) → AskForWorkers rows workers → ⊥) → HasWorkers rows → ⊥
+no_workers rows none has = none has.0 has.1
 
 -- ---- places
 
@@ -279,5 +311,5 @@ module _ (rows : List Row) where
   -- ---- a count by a list, of which a search is asked something
 
   pub no_search : (given : Given) (extent : Extent) → IsGiven rows given → IsExtent rows extent → (IsExtent rows extents.All → ⊥) → (order : Order) → IsOrderOf (Some (codes "count", rows)) order → ⊥
-  no_search Joined extent is asks some = no_count rows (λ other so all. some all) (λ place more alone so. named (codes "PUZZLE") place alone.at is.no_puzzle)
-  no_search (Apart places) extent is asks some = no_count rows (λ other so all. some all) (λ place more alone so. named (codes "LIST") places.list is.list alone.no_list)
+  no_search Joined extent is asks some = no_count rows (λ other so all has. some all) (λ place more alone so has. named (codes "PUZZLE") place alone.at is.no_puzzle)
+  no_search (Apart places) extent is asks some = no_count rows (λ other so all has. some all) (λ place more alone so has. named (codes "LIST") places.list is.list alone.no_list)

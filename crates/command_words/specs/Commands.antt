@@ -1,6 +1,6 @@
 -- The program's commands, as `clap` reads them.
 use Rattle.std.specs.Prelude.{◌≡◌, ℕ, List, true, false, [], ◌∷◌, Some, codes, fold}
-use Rattle.match_limits.specs.declared.TheConstants.{LAST_ARRANGEMENT, MOST_ARRANGEMENTS, MOST_COLOURS, MOST_DEPTH, MOST_FORKS, MOST_FUEL, MOST_LENGTH, MOST_TILES, MOST_WORKERS}
+use Rattle.match_limits.specs.declared.TheConstants.{LAST_ARRANGEMENT, MOST_ARRANGEMENTS, MOST_COLOURS, MOST_FORKS, MOST_FUEL, MOST_LENGTH, MOST_TILES}
 use Rattle.clap.specs.Words.{App, Rule, Text, new_app, new_rule, with_rule, with_subcommand}
 use Rattle.clap.specs.Simple.{on_top}
 use Rattle.clap.specs.declared.builder.action.ArgAction.TheVariants.{Append, SetTrue}
@@ -79,7 +79,7 @@ with_places app =
 abbrev pub check_app : App
 check_app =
     with_rules (with_places (new_app (codes "check")))
-    (optional_number (codes "workers") 1 MOST_WORKERS (codes "1")
+    (text_or_default (codes "workers") (codes "1")
     ∷ optional_number (codes "forks") 0 MOST_FORKS (codes "0")
     ∷ flag (codes "progress")
     ∷ flag (codes "hints")
@@ -95,16 +95,16 @@ find_app =
     ∷ flag (codes "orbits")
     ∷ optional_text (codes "symmetries")
     ∷ optional_number (codes "seed") 0 18446744073709551615 (codes "1975")
-    ∷ optional_number (codes "workers") 1 MOST_WORKERS (codes "1")
+    ∷ text_or_default (codes "workers") (codes "1")
     ∷ flag (codes "progress")
     ∷ [])
 
 abbrev pub solve_app : App
 solve_app =
     with_rules (with_files (new_app (codes "solve")))
-    (optional_number (codes "depth") 0 MOST_DEPTH (codes "1")
+    (text_or_default (codes "depth") (codes "1")
     ∷ optional_number (codes "fuel") 1 MOST_FUEL (codes "1000000")
-    ∷ optional_number (codes "workers") 1 MOST_WORKERS (codes "1")
+    ∷ text_or_default (codes "workers") (codes "1")
     ∷ text_or_default (codes "symmetries") (codes "all")
     ∷ flag (codes "check")
     ∷ flag (codes "progress")
@@ -125,7 +125,7 @@ page_app =
 abbrev pub count_app : App
 count_app =
     with_rules (with_places (new_app (codes "count")))
-    (optional_number (codes "workers") 1 MOST_WORKERS (codes "1")
+    (text_or_default (codes "workers") (codes "1")
     ∷ number_if_given (codes "most") 0 18446744073709551615
     ∷ optional_text (codes "part")
     ∷ flag (codes "progress")

@@ -1,5 +1,5 @@
 -- What words order.
-use Rattle.std.specs.Prelude.{◌≡◌, ◌≢◌, ◌⊎◌, ◌∷◌, ℕ, Bool, List, Option, Some, None, [], Contains, codes, find, map, option_map, false, true}
+use Rattle.std.specs.Prelude.{◌≡◌, ◌≢◌, ◌≤◌, ◌⊎◌, ◌∷◌, ℕ, Bool, List, Option, Some, None, [], Contains, codes, find, map, option_map, false, true}
 use Rattle.std.specs.Option.{option_map_or}
 use Rattle.std.specs.Str.{bytes_eq}
 use Rattle.std.specs.String.{string_bytes}
@@ -14,13 +14,16 @@ use Rattle.command_words.specs.declared.orders.Extent.{Extent}
 use Rattle.command_words.specs.declared.orders.Extent.TheVariants as extents
 use Rattle.command_words.specs.declared.orders.WantedRules.{WantedRules}
 use Rattle.command_words.specs.declared.orders.WantedRules.TheVariants as wanted
+use Rattle.command_words.specs.declared.orders.WantedWorkers.{WantedWorkers}
+use Rattle.command_words.specs.declared.orders.WantedWorkers.TheVariants as workers
 use Rattle.command_words.specs.declared.places.Files.{Files}
 use Rattle.command_words.specs.declared.orders.Subject.{Subject}
 use Rattle.command_words.specs.declared.orders.Subject.TheVariants.{Board, Listed}
 use Rattle.command_words.specs.declared.orders.Order.{Order}
 use Rattle.command_words.specs.declared.orders.Order.TheVariants.{Joined, Check, Explain, ExplainPuzzle, Find, Solve, Expand, Page, Count, Census, Total, Generate, Show, Draw, DrawAll, Cut, Symmetries, Tiles}
 use Rattle.command_words.specs.Commands.{whole_app}
-use Rattle.command_words.specs.Parts.{IsPartsText}
+use Rattle.command_words.specs.Parts.{IsPartsText, SpellsNumber}
+use Rattle.match_limits.specs.declared.TheConstants.{MOST_DEPTH, MOST_WORKERS}
 use Rattle.match_symmetry.specs.declared.choices.Suggested.{Suggested}
 use Rattle.match_symmetry.specs.declared.choices.Suggested.TheVariants as suggested
 use Rattle.puzzle_drafts.specs.declared.drafts.BorderKind.{BorderKind}
@@ -127,6 +130,28 @@ IsGiven rows (Apart places) = ArePlaces rows places
 abbrev pub number_of : Text → List Row → Option ℕ
 number_of id rows = option_map (λ text. digits_value 10 (without_leading_plus text)) (first_of id rows)
 
+-- The text under this id spells the number, which is from `least` to `most`.
+pub record AsksForNumber (id : Text) (least most : ℕ) (rows : List Row) (number : ℕ) : Type 0 where
+  pub text : Text
+  pub found : first_of id rows ≡ Some text
+  pub spelled : SpellsNumber text number
+  pub enough : least ≤ number
+  pub few : number ≤ most
+
+-- how many workers the matches of a command ask for: as many as there are processors, or a number of them
+abbrev pub AskForWorkers : List Row → WantedWorkers → Type 0
+AskForWorkers rows workers.All = first_of (codes "workers") rows ≡ Some (codes "all")
+AskForWorkers rows (workers.Number number) = AsksForNumber (codes "workers") 1 MOST_WORKERS rows number
+
+-- the matches of a command ask for workers
+abbrev pub HasWorkers : List Row → Type 0
+HasWorkers rows = (workers : WantedWorkers) × AskForWorkers rows workers
+
+-- how many levels the matches of `solve` ask for: as many as suit the puzzle, or a number of them
+abbrev pub AskForDepth : List Row → Option ℕ → Type 0
+AskForDepth rows None = first_of (codes "depth") rows ≡ Some (codes "auto")
+AskForDepth rows (Some number) = AsksForNumber (codes "depth") 0 MOST_DEPTH rows number
+
 -- a puzzle without a list, or one with a list and the number of an arrangement
 abbrev pub IsSubject : List Row → Subject → Type 0
 IsSubject rows (Board puzzle) = IsPlace (codes "PUZZLE") rows puzzle × (first_of (codes "LIST") rows ≡ None)
@@ -174,6 +199,12 @@ word_for suggested.OfBoard = codes "board"
 -- which symmetries the matches of a command name
 abbrev pub AskFor : List Row → Suggested → Type 0
 AskFor rows symmetries = first_of (codes "symmetries") rows ≡ Some (word_for symmetries)
+
+-- The matches of `solve` don't say how it searches: not by which depth, or how many workers, or which symmetries.
+abbrev pub AsksForNoSearch : List Row → Type 0
+AsksForNoSearch rows =
+    (depth : Option ℕ) (workers : WantedWorkers) (symmetries : Suggested) → AskForDepth rows depth
+    → AskForWorkers rows workers → AskFor rows symmetries → ⊥
 
 -- The symmetries by whose orbits the matches of `find` go: without `--orbits` none, and with it those that are named, which
 -- are the board's where none are.
@@ -259,7 +290,7 @@ pub record IsDraft (rows : List Row) (draft : Draft) : Type 0 where
 abbrev pub IsOrderOf : Option (Text × List Row) → Order → Type 0
 IsOrderOf None Joined = Unit {0}
 IsOrderOf (Some (name, rows)) (Check order) =
-    (name ≡ codes "check") × IsGiven rows order.given × (number_of (codes "workers") rows ≡ Some order.workers)
+    (name ≡ codes "check") × IsGiven rows order.given × AskForWorkers rows order.workers
     × (number_of (codes "forks") rows ≡ Some order.forks) × IsFlagged (codes "progress") rows order.progress
     × IsFlagged (codes "hints") rows order.hints
 IsOrderOf (Some (name, rows)) (Explain given) = (name ≡ codes "explain") × IsGiven rows given
@@ -267,11 +298,11 @@ IsOrderOf (Some (name, rows)) (ExplainPuzzle puzzle) = (name ≡ codes "explain"
 IsOrderOf (Some (name, rows)) (Find order) =
     (name ≡ codes "find") × IsPlace (codes "PUZZLE") rows order.puzzle × (number_of (codes "first") rows ≡ Some order.first)
     × AskForOrbits rows order.orbits × (number_of (codes "seed") rows ≡ Some order.seed)
-    × (number_of (codes "workers") rows ≡ Some order.workers) × IsFlagged (codes "progress") rows order.progress
+    × AskForWorkers rows order.workers × IsFlagged (codes "progress") rows order.progress
 IsOrderOf (Some (name, rows)) (Solve order) =
     (name ≡ codes "solve") × NameFiles rows order.files × AreWritable order.files
-    × (number_of (codes "depth") rows ≡ Some order.depth) × (number_of (codes "fuel") rows ≡ Some order.fuel)
-    × (number_of (codes "workers") rows ≡ Some order.workers) × AskFor rows order.symmetries
+    × AskForDepth rows order.depth × (number_of (codes "fuel") rows ≡ Some order.fuel)
+    × AskForWorkers rows order.workers × AskFor rows order.symmetries
     × IsFlagged (codes "check") rows order.check × IsFlagged (codes "progress") rows order.progress
     × IsFlagged (codes "hints") rows order.hints
 IsOrderOf (Some (name, rows)) (Expand order) =
@@ -280,10 +311,12 @@ IsOrderOf (Some (name, rows)) (Expand order) =
 IsOrderOf (Some (name, rows)) (Page order) =
     (name ≡ codes "page") × IsGiven rows order.given × (first_of (codes "title") rows ≡ Some (string_bytes order.title))
     × (number_of (codes "first") rows ≡ Some order.first) × IsFlagged (codes "hints") rows order.hints
-IsOrderOf (Some (name, rows)) (Count given) = (name ≡ codes "count") × IsGiven rows given × IsExtent rows extents.All
+IsOrderOf (Some (name, rows)) (Count given) =
+    (name ≡ codes "count") × IsGiven rows given × IsExtent rows extents.All
+    × HasWorkers rows
 IsOrderOf (Some (name, rows)) (Census order) =
     (name ≡ codes "count") × NamesPuzzle rows order.puzzle × IsExtent rows order.extent
-    × (number_of (codes "workers") rows ≡ Some order.workers) × IsFlagged (codes "progress") rows order.progress
+    × AskForWorkers rows order.workers × IsFlagged (codes "progress") rows order.progress
 IsOrderOf (Some (name, rows)) (Total parts) = (name ≡ codes "total") × AreNamedParts (values_of (codes "FILE") rows) parts
 IsOrderOf (Some (name, rows)) (Generate order) =
     (name ≡ codes "generate") × AreWantedRules rows order.rules × IsDraft rows order.draft

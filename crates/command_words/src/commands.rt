@@ -11,8 +11,8 @@ use crate::helps;
 use clap::builder::ValueParser;
 use clap::{Arg, ArgAction, Command};
 use match_limits::{
-    LAST_ARRANGEMENT, MOST_ARRANGEMENTS, MOST_COLOURS, MOST_DEPTH, MOST_DRAWN, MOST_FORKS,
-    MOST_FUEL, MOST_LENGTH, MOST_SIDES, MOST_TILES, MOST_WORKERS,
+    LAST_ARRANGEMENT, MOST_ARRANGEMENTS, MOST_COLOURS, MOST_DRAWN, MOST_FORKS, MOST_FUEL,
+    MOST_LENGTH, MOST_SIDES, MOST_TILES,
 };
 use std::alloc::{AllocError, Global};
 
@@ -117,24 +117,24 @@ const ANY_CERTIFICATE: Argument = Argument {
     help: "File of the certificate",
 };
 
-const WORKERS: Number = Number {
-    least: 1,
-    most: MOST_WORKERS as u64,
-    default: Some("1"),
+// A number of workers, or the word for as many as there are processors.
+const WORKERS: Kind = Kind::TextOption {
+    value: "WORKERS",
+    default: "1",
 };
 
 const CHECKING_WORKERS: Argument = Argument {
     id: "workers",
-    kind: Kind::Option { value: "N" },
-    number: Some(WORKERS),
-    help: "How many workers check the lemmas at once, 1 to 64",
+    kind: WORKERS,
+    number: None,
+    help: "How many workers check the lemmas at once, 1 to 64; all: as many as there are processors",
 };
 
 const SEARCHING_WORKERS: Argument = Argument {
     id: "workers",
-    kind: Kind::Option { value: "N" },
-    number: Some(WORKERS),
-    help: "How many workers search at once, 1 to 64",
+    kind: WORKERS,
+    number: None,
+    help: "How many workers search at once, 1 to 64; all: as many as there are processors",
 };
 
 const FORKS: Argument = Argument {
@@ -164,13 +164,12 @@ const HINTS: Argument = Argument {
 
 const DEPTH: Argument = Argument {
     id: "depth",
-    kind: Kind::Option { value: "N" },
-    number: Some(Number {
-        least: 0,
-        most: MOST_DEPTH as u64,
-        default: Some("1"),
-    }),
-    help: "How many levels of branches become lemmas before the search, 0 to 3",
+    kind: Kind::TextOption {
+        value: "DEPTH",
+        default: "1",
+    },
+    number: None,
+    help: "How many levels of branches become lemmas before the search, 0 to 3; auto: as suits the puzzle",
 };
 
 const FUEL: Argument = Argument {

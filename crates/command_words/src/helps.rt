@@ -19,8 +19,9 @@ pub(crate) const CHECK: &str = "\
 Prints the answer in one line: complete, or refused and why. Where the list is complete, a second line on a \
 terminal says how many arrangements are listed, and whether there are others, which are images of these.
 
-The answer is the same for any number of workers and forks. With --progress it says how far it is while it \
-runs; this doesn't change the answer.
+The answer is the same for any number of workers and forks. With --workers all there are as many workers as \
+the program may use processors, at most 64. With --progress it says how far it is while it runs; this doesn't \
+change the answer.
 
 Without files it reads the puzzle, the list and the certificate from standard input, one after the other. A \
 file that is named - is standard input.
@@ -31,7 +32,7 @@ Exit status:
   2  anything else; standard error says what
 
 Example:
-  edgematch check puzzle list certificate --workers 4";
+  edgematch check puzzle list certificate --workers all";
 
 pub(crate) const SOLVE: &str = "\
 Writes two files, which check reads: LIST, the puzzle's arrangements, and CERTIFICATE, which shows that there \
@@ -56,7 +57,11 @@ puzzles with symmetries then take a fraction of the time. The list then leaves o
 has, but not all, so don't publish its length: count says how many arrangements there are, and how many that \
 are no images of each other. With --symmetries board these are counted up to turns and mirror images of the \
 board and exchanges of equal tiles, otherwise up to exchanges of colours too. With a depth of 0 every \
-arrangement is listed, and no symmetry is named. The workers share the branches.
+arrangement is listed, and no symmetry is named.
+
+With --depth auto the depth is 3 where the puzzle has symmetries and the search with depth 1 is guessed to \
+have 10,000 nodes or more, and 1 otherwise. The workers share the branches. With --workers all there are as \
+many as the program may use processors, at most 64.
 
 The fuel is the most branch nodes that one lemma may have: cells or tiles at which it tries what fits. Where \
 more than one worker searches, or the depth isn't 0, a lemma that is short of fuel makes further lemmas of \
@@ -72,7 +77,7 @@ Exit status:
   3  gave up, too many options, or too many arrangements; standard error says which
 
 Example:
-  edgematch solve puzzle list certificate --check --depth 2 --workers 4";
+  edgematch solve puzzle list certificate --check --depth auto --workers all";
 
 pub(crate) const FIND: &str = "\
 Prints a list of at most K different arrangements of the puzzle; without --first, K is 1. show and draw read \
@@ -88,7 +93,8 @@ of the board: then the list has one. If it says too many expanded, one arrangeme
 It searches at random. Where it has found nothing for a while, it begins anew and goes on longer. Each worker \
 searches by itself, with a seed of its own: the first with that of --seed, each further one with the next \
 number. The list of the one that is done first is printed. So with one worker a seed always gives the same \
-list, and with several it may be another each time.
+list, and with several it may be another each time. With --workers all there are as many as the program may \
+use processors, at most 64.
 
 Exit status:
   0  the list is printed, also where it has no arrangement
@@ -185,8 +191,8 @@ Without files it reads the puzzle, the list and the certificate from standard in
 file that is named - is standard input.
 
 With --progress a search says while it runs how many of the subtrees are done, how many arrangements they \
-have, and about how long the others will take. Where a list is checked, --progress and --workers change \
-nothing.
+have, and about how long the others will take. With --workers all there are as many workers as the program \
+may use processors, at most 64. Where a list is checked, --progress and --workers change nothing.
 
 Exit status:
   0  the arrangements are counted, or there are more than M
@@ -195,7 +201,7 @@ Exit status:
   3  too many options, or too many arrangements to count, 2^64 or more; standard error says which
 
 Examples:
-  edgematch count puzzle --workers 4
+  edgematch count puzzle --workers all
   edgematch count puzzle --part 1-8/64
   edgematch count puzzle list certificate";
 

@@ -14,7 +14,7 @@ pub use faults::WordsFault;
 pub use orders::{
     CensusOrder, CheckOrder, ChosenFrom, CutOrder, DrawAllOrder, DrawOrder, ExpandOrder, Extent,
     FindOrder, GenerateOrder, MostFound, Order, PageOrder, Parts, SolveOrder, Subject, TileSize,
-    TilesOrder, Tries, WantedRules,
+    TilesOrder, Tries, WantedRules, WantedWorkers,
 };
 pub use places::{Files, Given, PartPlaces, Place, Places, TwoPlaces};
 pub use readings::order;

@@ -70,11 +70,20 @@ pub enum Subject {
     },
 }
 
+/// How many workers are asked for.
+#[derive(Clone, Copy)]
+pub enum WantedWorkers {
+    /// As many as there are processors.
+    All,
+    /// This many.
+    Number(Workers),
+}
+
 /// A check of a puzzle, a list and a certificate.
 #[derive(Drop)]
 pub struct CheckOrder {
     pub given: Given,
-    pub workers: Workers,
+    pub workers: WantedWorkers,
     pub forks: Forks,
     /// Whether it says meanwhile how far it is.
     pub progress: bool,
@@ -99,7 +108,7 @@ pub struct FindOrder {
     pub orbits: Option<Suggested>,
     /// What the random numbers of the first worker begin with.
     pub seed: u64,
-    pub workers: Workers,
+    pub workers: WantedWorkers,
     /// Whether it says meanwhile how far it is.
     pub progress: bool,
 }
@@ -108,9 +117,10 @@ pub struct FindOrder {
 #[derive(Drop)]
 pub struct SolveOrder {
     pub files: Files,
-    pub depth: Depth,
+    /// Of how many levels of branches lemmas are made before the search; `None`: of as many as suit the puzzle.
+    pub depth: Option<Depth>,
     pub fuel: Fuel,
-    pub workers: Workers,
+    pub workers: WantedWorkers,
     /// Which symmetries the certificate names.
     pub symmetries: Suggested,
     /// Whether what was found is checked before its files are put under their names.
@@ -149,7 +159,7 @@ pub struct PageOrder {
 pub struct CensusOrder {
     pub puzzle: Place,
     pub extent: Extent,
-    pub workers: Workers,
+    pub workers: WantedWorkers,
     /// Whether it says meanwhile how far it is.
     pub progress: bool,
 }

@@ -1,19 +1,20 @@
 //! Reads words as orders.
 
-ghost use Rattle.std.specs.Prelude.{◌≡◌, ◌↔◌, ◌<◌, ◌^◌, ℕ, List, Option, Contains, Some, codes, map, None, IfOk, IfErr, IsFalse, IsTrue, MatchOption};
+ghost use Rattle.std.specs.Prelude.{◌≡◌, ◌↔◌, ◌<◌, ◌≤◌, ◌^◌, ℕ, List, Option, Contains, Some, codes, map, None, IfOk, IfErr, IsFalse, IsTrue, MatchOption};
 ghost use Rattle.std.specs.String.{string_bytes};
 ghost use Rattle.std.specs.Str.Parse.{digits_value, without_leading_plus};
 ghost use Rattle.clap.specs.Words.{IsUnsignedIn, Row, first_of, found_of, kind_of, rows_of};
 ghost use Rattle.clap.specs.declared.error.kind.ErrorKind.TheVariants.{ArgumentConflict};
 ghost use Rattle.command_words.specs.Places.{input_name};
-ghost use Rattle.command_words.specs.Orders.{AreMatchesOf, AreNamedParts, AreWritable, AskFor, AskForOrbits, HasFiles, HasFlag, HasNumber, HasText, IsExtent, IsFlagged};
+ghost use Rattle.command_words.specs.Orders.{AreMatchesOf, AreNamedParts, AreWritable, AsksForNoSearch, AskFor, AskForDepth, AskForOrbits, AskForWorkers, HasFiles, HasFlag, HasNumber, HasText, HasWorkers, IsExtent, IsFlagged};
 ghost use Rattle.command_words.specs.Orders.{IsGiven, IsMisfit, IsOrder, IsOrderOf, IsPlace, IsRefused};
 ghost use Rattle.command_words.specs.Orders.{IsSubject, MayHaveNumber, NameFiles, TellsOfMisfit, number_of};
 ghost use Rattle.command_words.specs.Asked.{AreAskedFor, IsAsked, IsOfThree, MayStandAt};
-ghost use Rattle.command_words.specs.Parts.{IsPartsText, SpellsRange};
+ghost use Rattle.command_words.specs.Parts.{IsPartsText, SpellsNumber, SpellsRange};
 ghost use Rattle.command_words.specs.declared.orders.Extent.{Extent};
 ghost use Rattle.command_words.specs.declared.orders.Parts.{Parts};
 ghost use Rattle.command_words.specs.declared.orders.Subject.{Subject};
+ghost use Rattle.command_words.specs.declared.orders.WantedWorkers.{WantedWorkers};
 ghost use Rattle.command_words.specs.declared.places.Given.{Given};
 ghost use Rattle.command_words.specs.declared.places.PartPlaces.{PartPlaces};
 ghost use Rattle.match_symmetry.specs.declared.choices.Suggested.{Suggested};
@@ -28,12 +29,12 @@ use crate::drawing_words::draw;
 use crate::faults::WordsFault;
 use crate::orders::{
     CensusOrder, CheckOrder, ExpandOrder, Extent, FindOrder, Order, PageOrder, Parts, SolveOrder,
-    Subject, TilesOrder,
+    Subject, TilesOrder, WantedWorkers,
 };
 use crate::places::{Files, Given, PartPlaces, Place, Places, TwoPlaces};
 use clap::error::ErrorKind;
 use clap::{ArgMatches, Command};
-use match_limits::Within;
+use match_limits::{Depth, Within};
 use match_symmetry::Suggested;
 use std::alloc::{AllocError, Global};
 
@@ -61,6 +62,13 @@ const NOT_SUGGESTED: &str = "--symmetries is all, or board: those that leave eac
 // The message for symmetries where no orbits are asked for.
 const NO_ORBITS: &str =
     "--symmetries stands with --orbits, and says which arrangements are images of each other";
+
+// The message for another word for the workers.
+const NOT_WORKERS: &str =
+    "--workers is a number from 1 to 64, or all: as many as there are processors";
+
+// The message for another word for the depth.
+const NOT_DEPTH: &str = "--depth is a number from 0 to 3, or auto: as suits the puzzle";
 
 // The text with this id.
 fn text(alloc: Global, matches: &ArgMatches<'_>, id: &str) -> Result<String, AllocError>
@@ -110,6 +118,56 @@ pub(crate) fn number_if_given<const LEAST: u32, const MOST: u32>(
     match word(matches, id) {
         Some(_) => Some(number(matches, id)),
         None => None,
+    }
+}
+
+// The number that the text spells, if it is in the range.
+fn number_in<const LEAST: u32, const MOST: u32>(text: &str) -> Option<Within<LEAST, MOST>>
+    ensures { MatchOption result ((number : ℕ) → SpellsNumber text.now number → LEAST ≤ number → number ≤ MOST → ⊥)
+        (λ number. SpellsNumber text.now number × (LEAST ≤ number) × (number ≤ MOST)) }
+{
+    let Ok(number) = text.parse::<u32>() else {
+        return None;
+    };
+    if LEAST <= number && number <= MOST {
+        Some(Within::new(number))
+    } else {
+        None
+    }
+}
+
+// How many workers the matches of a command ask for; an `Err` says why their word asks for none.
+fn workers(matches: &ArgMatches<'_>) -> Result<WantedWorkers, &'static str>
+    ensures asked { IfOk result (AskForWorkers (rows_of (found_of matches.now))) }
+    ensures refused { IfErr result (λ _. HasWorkers (rows_of (found_of matches.now)) → ⊥) }
+{
+    let Some(word) = matches.get_str("workers") else {
+        return Err(NOT_WORKERS);
+    };
+    if word == "all" {
+        return Ok(WantedWorkers::All);
+    }
+    match number_in(word) {
+        Some(number) => Ok(WantedWorkers::Number(number)),
+        None => Err(NOT_WORKERS),
+    }
+}
+
+// How many levels the matches of `solve` ask for, `None` where the solver is to choose; an `Err` says why their word asks
+// for none.
+fn depth(matches: &ArgMatches<'_>) -> Result<Option<Depth>, &'static str>
+    ensures asked { IfOk result (AskForDepth (rows_of (found_of matches.now))) }
+    ensures refused { IfErr result (λ _. (depth : Option ℕ) → AskForDepth (rows_of (found_of matches.now)) depth → ⊥) }
+{
+    let Some(word) = matches.get_str("depth") else {
+        return Err(NOT_DEPTH);
+    };
+    if word == "auto" {
+        return Ok(None);
+    }
+    match number_in(word) {
+        Some(number) => Ok(Some(number)),
+        None => Err(NOT_DEPTH),
     }
 }
 
@@ -305,7 +363,10 @@ fn check(alloc: Global, matches: &ArgMatches<'_>) -> Result<Order, WordsFault>
         Ok(given) => given,
         Err(reason) => return Err(misfit(check_command(alloc), "edgematch check", reason)),
     };
-    let workers = number(matches, "workers");
+    let workers = match workers(matches) {
+        Ok(workers) => workers,
+        Err(reason) => return Err(misfit(check_command(alloc), "edgematch check", reason)),
+    };
     let forks = number(matches, "forks");
     let progress = flag(matches, "progress");
     let hints = flag(matches, "hints");
@@ -362,10 +423,13 @@ fn find(alloc: Global, matches: &ArgMatches<'_>) -> Result<Order, WordsFault>
         Ok(orbits) => orbits,
         Err(reason) => return Err(misfit(find_command(alloc), "edgematch find", reason)),
     };
+    let workers = match workers(matches) {
+        Ok(workers) => workers,
+        Err(reason) => return Err(misfit(find_command(alloc), "edgematch find", reason)),
+    };
     let puzzle = puzzle_place(alloc, matches)?;
     let first = number(matches, "first");
     let seed = seed(matches);
-    let workers = number(matches, "workers");
     let progress = flag(matches, "progress");
     Ok(Order::Find(FindOrder {
         puzzle,
@@ -377,6 +441,33 @@ fn find(alloc: Global, matches: &ArgMatches<'_>) -> Result<Order, WordsFault>
     }))
 }
 
+// How the matches of `solve` ask for a search.
+#[derive(Clone, Copy)]
+struct AskedSearch {
+    depth: Option<Depth>,
+    workers: WantedWorkers,
+    symmetries: Suggested,
+}
+
+// How the matches of `solve` ask for a search; an `Err` says which word asks for none.
+fn asked_search(matches: &ArgMatches<'_>) -> Result<AskedSearch, &'static str>
+    ensures depth { IfOk result (λ search. AskForDepth (rows_of (found_of matches.now)) search.depth) }
+    ensures workers { IfOk result (λ search. AskForWorkers (rows_of (found_of matches.now)) search.workers) }
+    ensures symmetries { IfOk result (λ search. AskFor (rows_of (found_of matches.now)) search.symmetries) }
+    ensures refused { IfErr result (λ _. AsksForNoSearch (rows_of (found_of matches.now))) }
+{
+    let depth = depth(matches)?;
+    let workers = workers(matches)?;
+    let Some(symmetries) = suggested(matches) else {
+        return Err(NOT_SUGGESTED);
+    };
+    Ok(AskedSearch {
+        depth,
+        workers,
+        symmetries,
+    })
+}
+
 fn solve(alloc: Global, matches: &ArgMatches<'_>) -> Result<Order, WordsFault>
     requires { AreMatchesOf (codes "solve") (rows_of (found_of matches.now)) }
     ensures order { IfOk result (IsOrderOf (Some (codes "solve", rows_of (found_of matches.now)))) }
@@ -386,21 +477,20 @@ fn solve(alloc: Global, matches: &ArgMatches<'_>) -> Result<Order, WordsFault>
     if !are_writable(&files) {
         return Err(misfit(solve_command(alloc), "edgematch solve", NOT_WRITTEN));
     }
-    let Some(symmetries) = suggested(matches) else {
-        return Err(misfit(solve_command(alloc), "edgematch solve", NOT_SUGGESTED));
+    let search = match asked_search(matches) {
+        Ok(search) => search,
+        Err(reason) => return Err(misfit(solve_command(alloc), "edgematch solve", reason)),
     };
-    let depth = number(matches, "depth");
     let fuel = number(matches, "fuel");
-    let workers = number(matches, "workers");
     let check = flag(matches, "check");
     let progress = flag(matches, "progress");
     let hints = flag(matches, "hints");
     Ok(Order::Solve(SolveOrder {
         files,
-        depth,
+        depth: search.depth,
         fuel,
-        workers,
-        symmetries,
+        workers: search.workers,
+        symmetries: search.symmetries,
         check,
         progress,
         hints,
@@ -548,10 +638,13 @@ fn count(alloc: Global, matches: &ArgMatches<'_>) -> Result<Order, WordsFault>
             "--part is K/N or A-B/N, of parts 1 to N, N at most 1000000, and stands without --most",
         ));
     };
+    let workers = match workers(matches) {
+        Ok(workers) => workers,
+        Err(reason) => return Err(misfit(count_command(alloc), "edgematch count", reason)),
+    };
     match read_asked(alloc, matches)? {
         Asked::Given(given) => count_given(alloc, given, extent),
         Asked::Puzzle(puzzle) => {
-            let workers = number(matches, "workers");
             let progress = flag(matches, "progress");
             Ok(Order::Census(CensusOrder {
                 puzzle,
@@ -566,7 +659,7 @@ fn count(alloc: Global, matches: &ArgMatches<'_>) -> Result<Order, WordsFault>
 
 // Counts by these documents.
 fn count_given(alloc: Global, given: Given, extent: Extent) -> Result<Order, WordsFault>
-    ensures { (rows : List Row) → IsGiven rows given → IsExtent rows extent
+    ensures { (rows : List Row) → IsGiven rows given → IsExtent rows extent → HasWorkers rows
         → IfOk result (IsOrderOf (Some (codes "count", rows)))
         × IfErr result (IsMisfit (Some (codes "count", rows))) }
 {

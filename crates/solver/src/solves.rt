@@ -21,7 +21,7 @@ use crate::searches::{Searched, Searches};
 use crate::shared::Shared;
 use crate::strategy::items::ItemRule;
 use crate::strategy::plans::{Plan, Planner};
-use crate::strategy::roots::plan_by_dives;
+use crate::strategy::roots::{depth_that_suits, plan_by_dives};
 use cert_text::within_limits_with;
 use cert_tree::{AssembleFault, Certificate};
 use giving_crew::run_live;
@@ -42,8 +42,8 @@ use xcc_form::{Xcc, compile};
 /// How a puzzle is searched.
 #[derive(Clone, Copy)]
 pub struct SearchPlan {
-    /// How many levels of branches become lemmas before the search begins.
-    pub depth: Depth,
+    /// How many levels of branches become lemmas before the search begins; `None`: as many as suit the puzzle, 1 or 3.
+    pub depth: Option<Depth>,
     /// The most branch nodes that a lemma may have.
     pub fuel: Fuel,
     pub workers: Workers,
@@ -60,18 +60,26 @@ pub struct Solved {
     pub tally: Vec<Vec<u32>>,
 }
 
+// How many levels are asked for, if a number is.
+fn levels_of(depth: Option<Depth>) -> Option<u8> {
+    match depth {
+        Some(depth) => Some(depth.get() as u8),
+        None => None,
+    }
+}
+
 // The symmetries by which lemmas may be cited.
 fn lines_of(
     alloc: Global,
     puzzle: &Puzzle,
-    depth: u8,
+    levels: Option<u8>,
     asked: Suggested,
 ) -> Result<Vec<SymmetryLine>, AllocError>
     ensures symmetries { IfOk result (λ v. All (IsSymmetry puzzle.now) v.items) }
     ensures asked_for { IfOk result (λ v. All (IsAskedFor asked) v.items) }
     ensures few { IfOk result (λ v. vec_len v ≤ MOST_SYMMETRIES) }
 {
-    if depth == 0 {
+    if levels == Some(0) {
         return Ok(Vec::new(alloc));
     }
     let lines = suggest_of(alloc, puzzle, asked)?;
@@ -94,6 +102,26 @@ fn symmetries_of<'a>(
         }
     }
     Ok(symmetries)
+}
+
+// The depth that suits the puzzle, as the rule says by which all searches choose their items.
+fn suited_depth<'a, R: Threads + Sync>(
+    rt: &R,
+    alloc: Global,
+    xcc: &'a Xcc<'a>,
+    lines: &[SymmetryLine],
+) -> Result<u8, AllocError>
+    requires lines { All (IsSymmetry xcc.now.puzzle) lines.now }
+{
+    let symmetries = symmetries_of(alloc, xcc.puzzle(), lines)?;
+    let item_rule = ItemRule::least(alloc, xcc, &symmetries)?;
+    let planner = Planner {
+        alloc,
+        xcc,
+        symmetries: &symmetries,
+        item_rule,
+    };
+    depth_that_suits(rt, planner)
 }
 
 // The branches that become lemmas first, and the rule by which all searches choose their items.
@@ -354,7 +382,7 @@ pub fn solve_with<R: Threads + Wait + Sync>(
     ensures too_many { IsErrOf result SolveFault.TooMany → HasTooManyEntries puzzle.now }
 {
     let search = SearchPlan {
-        depth: Within::new(u32::from(depth)),
+        depth: Some(Within::new(u32::from(depth))),
         fuel: Within::new(fuel),
         workers: Within::new(u32::from(workers)),
         symmetries: Suggested::All,
@@ -375,10 +403,14 @@ pub fn solve_watched<R: Threads + Wait + Sync, W: Watch + Sync>(
     ensures asked_for { IfOk result (λ s. All (IsAskedFor search.symmetries) s.certificate.symmetries) }
     ensures too_many { IsErrOf result SolveFault.TooMany → HasTooManyEntries puzzle.now }
 {
-    let depth = search.depth.get() as u8;
     let workers = search.workers.get() as u8;
     let xcc = compile(alloc, puzzle)?;
-    let lines = lines_of(alloc, puzzle, depth, search.symmetries)?;
+    let levels = levels_of(search.depth);
+    let lines = lines_of(alloc, puzzle, levels, search.symmetries)?;
+    let depth = match levels {
+        Some(levels) => levels,
+        None => suited_depth(rt, alloc, &xcc, &lines)?,
+    };
     let plan = plan_of(rt, alloc, &xcc, &lines, depth, workers)?;
     let shared = Shared {
         alloc,

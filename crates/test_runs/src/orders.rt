@@ -10,7 +10,7 @@ use crate::outcomes::with_memory;
 use byte_streams::Fake;
 use command_orders::{Exit, HintedFault, Streams, run_order};
 use command_runs::RunFault;
-use command_words::{CheckOrder, Files, Given, Order, Place, Places, SolveOrder};
+use command_words::{CheckOrder, Files, Given, Order, Place, Places, SolveOrder, WantedWorkers};
 use match_limits::{Depth, Forks, Fuel, Workers};
 use solver::{SolveFault, Suggested};
 use std::alloc::{AllocError, Global};
@@ -66,7 +66,7 @@ fn exit_of<R: Threads + Wait + Sync + RandomSource + Clock + Eprint>(
     };
     let order = Order::Check(CheckOrder {
         given: Given::Apart(places),
-        workers: Workers::new(2),
+        workers: WantedWorkers::Number(Workers::new(2)),
         forks: Forks::new(1),
         progress: false,
         hints: false,
@@ -135,9 +135,9 @@ fn solve_order(alloc: Global, check: bool) -> Result<Order, AllocError> {
     };
     Ok(Order::Solve(SolveOrder {
         files,
-        depth: Depth::new(0),
+        depth: Some(Depth::new(0)),
         fuel: Fuel::new(10),
-        workers: Workers::new(1),
+        workers: WantedWorkers::Number(Workers::new(1)),
         symmetries: Suggested::All,
         check,
         progress: false,

@@ -90,6 +90,8 @@ pub struct Dives {
     levels: u16,
     // what the dives so far took
     pub effort: Effort,
+    // how many of them filled all cells
+    pub full: u64,
 }
 
 impl Dives {
@@ -100,6 +102,7 @@ impl Dives {
             placed: Vec::new(alloc),
             levels: cells,
             effort: Effort::none(),
+            full: 0,
         }
     }
 
@@ -155,6 +158,7 @@ impl Dives {
         ensures { engine.new ≡ engine.old }
     {
         let Some(item) = engine.branch_item() else {
+            self.full = self.full.saturating_add(1);
             return Ok(1);
         };
         let children = engine.size(item);

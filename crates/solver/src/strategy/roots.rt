@@ -10,16 +10,16 @@ use crate::strategy::guesses::{Guesses, MOST_PLANS, plans_by};
 use crate::strategy::images::image_of_pair;
 use crate::strategy::orbits::Orbits;
 use crate::strategy::plans::{Plan, Planner};
-use match_limits::MOST_WORKERS;
+use match_limits::{MOST_DEPTH, MOST_WORKERS};
 use std::alloc::{AllocError, Global};
 use std::thread::Threads;
 use xcc_dance::OpenSets;
 use xcc_form::OpenOptions;
 
-// How many choices are made to tell whether another item is looked for.
+// How many choices are made for a first guess of a plan's nodes.
 const FIRST_CHOICES: u64 = 4_096;
 
-// Where the plan is guessed to have fewer nodes than this, no other item is looked for.
+// Where the plan is guessed to have fewer nodes than this, no other item is looked for, and no deeper plan.
 const FEW_NODES: u64 = 10_000;
 
 // Where the plan is guessed to have several times this number of nodes, the numbers of choices below are taken as many
@@ -66,6 +66,28 @@ struct Comparison<'a, R: Threads + Sync> {
 }
 
 impl<'a, R: Threads + Sync> Comparison<'a, R> {
+    // A comparison that has begun with nothing, on one worker.
+    fn new(rt: &'a R, planner: Planner<'a>) -> Comparison<'a, R>
+        ensures { result.workers ≡ 1 }
+    {
+        Comparison {
+            rt,
+            workers: 1,
+            planner,
+            effort: Effort::guessed(planner.xcc.cells()),
+            round: 0,
+            times: 1,
+        }
+    }
+
+    // How many nodes the lemmas of this plan have together, by the few dives of a first guess.
+    fn first_guess(&mut self, plan: &Plan) -> Result<u64, AllocError>
+        ensures { self.new.workers ≡ self.old.workers }
+    {
+        let guesses = self.guess(std::slice::from_ref(plan), FIRST_CHOICES)?;
+        Ok(guesses.first().copied().unwrap_or(0))
+    }
+
     // How many nodes the lemmas of each of these plans have together, by dives with about `choices` choices for each
     // plan, taken `self.times` times.
     fn guess(&mut self, plans: &[Plan], choices: u64) -> Result<Vec<u64>, AllocError>
@@ -197,8 +219,7 @@ impl<'a, R: Threads + Sync> Comparison<'a, R> {
     ) -> Result<Plan, AllocError>
         requires workers { (1 ≤ workers) × (workers ≤ MOST_WORKERS) }
     {
-        let guesses = self.guess(std::slice::from_ref(&plan), FIRST_CHOICES)?;
-        let nodes = guesses.first().copied().unwrap_or(0);
+        let nodes = self.first_guess(&plan)?;
         if nodes < FEW_NODES {
             return Ok(plan);
         }
@@ -268,13 +289,17 @@ pub fn plan_by_dives<R: Threads + Sync>(
     let Some(item) = planner.item_rule.root else {
         return Ok(plan);
     };
-    let mut comparison = Comparison {
-        rt,
-        workers: 1,
-        planner,
-        effort: Effort::guessed(planner.xcc.cells()),
-        round: 0,
-        times: 1,
-    };
+    let mut comparison = Comparison::new(rt, planner);
     comparison.best_beside(plan, item, depth, workers)
+}
+
+// The depth that suits a puzzle: the greatest where there are symmetries and a plan of one level is guessed to have many
+// nodes, and 1 otherwise. A deeper plan has more of what may be cited, and each of its lemmas has a line.
+pub fn depth_that_suits<R: Threads + Sync>(rt: &R, planner: Planner<'_>) -> Result<u8, AllocError> {
+    if planner.symmetries.is_empty() {
+        return Ok(1);
+    }
+    let plan = planner.plan(1)?;
+    let nodes = Comparison::new(rt, planner).first_guess(&plan)?;
+    Ok(if nodes < FEW_NODES { 1 } else { MOST_DEPTH })
 }

@@ -6,7 +6,7 @@ use Rattle.byte_streams.specs.declared.faults.Document.TheVariants as documents
 use Rattle.command_runs.specs.Runs.{unhinted}
 use Rattle.command_words.specs.declared.places.Place.{Place}
 use Rattle.command_words.specs.declared.places.Place.TheVariants.{File, Input}
-use Rattle.command_orders.specs.OrderRuns.{SolveOf, solve_plan_of}
+use Rattle.command_orders.specs.OrderRuns.{SolveOf}
 use Rattle.command_orders.specs.PlaceOrigins.{one_place}
 use Rattle.command_orders.specs.SolvedFiles.{PutsAll, solved_files}
 use Rattle.command_orders.proofs.OrderLemmas.{opened_as}
@@ -16,7 +16,7 @@ use Rattle.command_orders.proofs.order_runs.solve.Goals as goal
 pub returns-in_ok-puzzle-in-File-clause-run : goal.returns-in_ok-puzzle-in-File-clause-run
 returns-in_ok-puzzle-in-File-clause-run g c =
     let name = c.in-File.name in
-    let files = c.args.order.now.files in
+    let files = c.args.files.now in
     let does = g.S.FileSystem.does in
     let old = c.args.system.now in
     let new = c.solve_from.new.system in
@@ -26,7 +26,7 @@ returns-in_ok-puzzle-in-File-clause-run g c =
     let opened = opened_as g.S.FileSystem g.S.Reader.Source old (string_bytes name) c.deref.result.now puzzle read c.deref.ensures c.in_ok-puzzle-in-File.ensures.opened in
     let from = one_source documents.Puzzle (reading_of g.S.Reader.Source puzzle read) in
     let input = c.args.input.now in
-    let plan = solve_plan_of c.args.order.now in
+    let plan = c.args.ordered.plan in
     let to = solved_files files does g.S.FileSystem.leads old new report in
     let put = PutsAll files does old new report in
     let result = unhinted c.solve_from.result in
@@ -35,7 +35,7 @@ returns-in_ok-puzzle-in-File-clause-run g c =
 
 pub returns-in-Input-clause-run : goal.returns-in-Input-clause-run
 returns-in-Input-clause-run g c =
-    let files = c.args.order.now.files in
+    let files = c.args.files.now in
     let does = g.S.FileSystem.does in
     let old = c.args.system.now in
     let new = c.solve_from-in-Input.new.system in
@@ -43,7 +43,7 @@ returns-in-Input-clause-run g c =
     let input = c.args.input.now in
     let later = c.solve_from-in-Input.new.puzzle in
     let from = one_source documents.Puzzle (reading_of g.I.Source input later) in
-    let plan = solve_plan_of c.args.order.now in
+    let plan = c.args.ordered.plan in
     let to = solved_files files does g.S.FileSystem.leads old new report in
     let put = PutsAll files does old new report in
     let result = unhinted c.solve_from-in-Input.result in

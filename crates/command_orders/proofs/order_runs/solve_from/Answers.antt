@@ -11,10 +11,9 @@ use Rattle.byte_streams.specs.declared.outputs.Products.{Products}
 use Rattle.command_runs.specs.Runs.{Runs, unhinted}
 use Rattle.command_runs.specs.Solving.{SolveFailsOf, SolveGivesOf}
 use Rattle.command_runs.specs.declared.faults.RunFault.{RunFault}
-use Rattle.command_runs.specs.declared.solve_runs.SolvePlan.{SolvePlan}
 use Rattle.command_orders.specs.SolvedFiles.{PutsAll, certificate_name, list_name, solved_files}
 use Rattle.command_orders.specs.declared.exits.Exit.TheVariants.{Done}
-use Rattle.command_orders.specs.OrderRuns.{SolveOf, solve_plan_of}
+use Rattle.command_orders.specs.OrderRuns.{SolveOf}
 use Rattle.command_orders.proofs.SolvedLemmas.{after_run, are_written, did_then, named, not_begun, put_if_written, put_stopped, replaced_if_written, solve_stopped, stopped_by, tried_if_written, undone, unread}
 use Rattle.command_orders.proofs.order_runs.solve_from.Goals.{After-told-told}
 use Rattle.command_orders.proofs.order_runs.solve_from.Goals as goal
@@ -37,11 +36,10 @@ to g c = three_sinks (list_to g c) (certificate_to g c) (report_to g c)
 
 -- the run came to this, where what is told of it is the same
 run_as : (g : _) (c : After-told-told g) (ended : Result (Unit {0}) RunFault) → unhinted c.told-told.result ≡ ended
-    → Runs (from g c) (SolveGivesOf (solve_plan_of c.args.order.now)) (SolveFailsOf (solve_plan_of c.args.order.now)) (to g c) ended
+    → Runs (from g c) (SolveGivesOf c.args.ordered.plan) (SolveFailsOf c.args.ordered.plan) (to g c) ended
 run_as g c ended is =
-    subst (Runs (from g c) (SolveGivesOf (solve_plan_of c.args.order.now)) (SolveFailsOf (solve_plan_of c.args.order.now)) (to g c)) (sym c.told-told.ensures ∙ is)
-    (subst (λ (p : SolvePlan). Runs (from g c) (SolveGivesOf p) (SolveFailsOf p) (to g c) (unhinted c.run_solve_watched-solved.result)) c.solve_plan.ensures
-    c.run_solve_watched-solved.ensures.run)
+    subst (Runs (from g c) (SolveGivesOf c.args.ordered.plan) (SolveFailsOf c.args.ordered.plan) (to g c)) (sym c.told-told.ensures ∙ is)
+    c.run_solve_watched-solved.ensures.run
 
 pub returns-in_err-are_apart : goal.returns-in_err-are_apart
 returns-in_err-are_apart g c =
@@ -52,14 +50,14 @@ pub returns-in_err-made : goal.returns-in_err-made
 returns-in_err-made g c =
     let w = err_from_is_err_and c.from_residual-in_err-made.result c.from_residual-in_err-made.ensures.1 in
     let does = g.S.FileSystem.does in
-    let files = c.args.order.now.files in
+    let files = c.args.files.now in
     let old = c.args.system.now in
     let new = c.make_files.new.system in
     let puzzle = one_source documents.Puzzle (reading_of g.P.Source c.args.puzzle.now c.args.puzzle.now) in
     let report = writing_of g.W.Sink c.args.output.now c.args.output.now in
     let to = solved_files files does g.S.FileSystem.leads old new report in
     let undone = named (λ l k. Undid l k does old new) _ _ _ _ c.deref.ensures c.deref-2.ensures c.in_err-made.ensures.undone in
-    rw (w.1, w.2) (not_begun (solve_plan_of c.args.order.now) puzzle to (PutsAll files does old new report) (unread g.P.Source c.args.puzzle.now)
+    rw (w.1, w.2) (not_begun c.args.ordered.plan puzzle to (PutsAll files does old new report) (unread g.P.Source c.args.puzzle.now)
     c.in_err-made.field-0.0.fault c.in_err-made.ensures.fault (undone, refl))
 
 -- the two files took the texts that were made
@@ -73,7 +71,7 @@ written g c texts took =
 pub settle-requires : goal.settle-requires
 settle-requires g c =
     let at = (goal.at.settle-requires g c).After-told-told in
-    after_run (from g at) (SolveGivesOf (solve_plan_of c.args.order.now)) (SolveFailsOf (solve_plan_of c.args.order.now)) (to g at) c.told-told.result
+    after_run (from g at) (SolveGivesOf c.args.ordered.plan) (SolveFailsOf c.args.ordered.plan) (to g at) c.told-told.result
     (run_as g at (unhinted c.told-told.result) refl) (λ texts took. (texts, written g at texts took))
 
 pub returns-in-Err-Stopped : goal.returns-in-Err-Stopped
@@ -81,7 +79,7 @@ returns-in-Err-Stopped g c =
     let at = (goal.at.returns-in-Err-Stopped g c).After-told-told in
     let does = g.S.FileSystem.does in
     let leads = g.S.FileSystem.leads in
-    let files = c.args.order.now.files in
+    let files = c.args.files.now in
     let names : ProductNames = record { list = c.deref.result; certificate = c.deref-2.result } in
     let old = c.args.system.now in
     let now = c.make_files.new.system in
@@ -92,7 +90,7 @@ returns-in-Err-Stopped g c =
     (undone does names.list.now names.certificate.now old now new c.in_ok-made.ensures.made.1 stopped.1) in
     let left : c.output-1.given.0 ≡ c.run_solve_watched-solved.new.outputs.report.now = search rules in
     let read : c.puzzle-1.given.0 ≡ c.run_solve_watched-solved.new.inputs.source.now = search rules in
-    let plan = solve_plan_of c.args.order.now in
+    let plan = c.args.ordered.plan in
     let report = c.output-1.given.0 in
     subst (λ p. SolveOf plan (one_source documents.Puzzle (reading_of g.P.Source c.args.puzzle.now p)) (solved_files files does leads old new (writing_of g.W.Sink c.args.output.now report)) (PutsAll files does old new (writing_of g.W.Sink c.args.output.now report)) (Err hinted.fault)) (sym read)
     (subst (λ o. SolveOf plan (from g at) (solved_files files does leads old new (writing_of g.W.Sink c.args.output.now o)) (PutsAll files does old new (writing_of g.W.Sink c.args.output.now o)) (Err hinted.fault)) (sym left)
@@ -104,7 +102,7 @@ pub returns-in-Err-NotPut : goal.returns-in-Err-NotPut
 returns-in-Err-NotPut g c =
     let at = (goal.at.returns-in-Err-NotPut g c).After-told-told in
     let does = g.S.FileSystem.does in
-    let files = c.args.order.now.files in
+    let files = c.args.files.now in
     let names : ProductNames = record { list = c.deref.result; certificate = c.deref-2.result } in
     let old = c.args.system.now in
     let now = c.make_files.new.system in

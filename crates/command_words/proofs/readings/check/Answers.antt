@@ -1,10 +1,7 @@
 use Rattle.std.proofs.Common.{arith}
 use Rattle.clap.specs.Words.{found_of, rows_of}
-use Rattle.command_words.proofs.CommandLemmas.{check_forks, check_hints, check_progress, check_workers}
+use Rattle.command_words.proofs.CommandLemmas.{check_forks, check_hints, check_progress}
 use Rattle.command_words.proofs.readings.check.Goals as goal
-
-pub number-workers-requires : goal.number-workers-requires
-number-workers-requires c = (omega arith, check_workers (rows_of (found_of c.args.matches.now)) c.requires)
 
 pub number-forks-requires : goal.number-forks-requires
 number-forks-requires c = (omega arith, check_forks (rows_of (found_of c.args.matches.now)) c.requires)

@@ -1,6 +1,6 @@
 use Rattle.std.proofs.Common.{arith, codes, rules}
 use Rattle.clap.specs.Words.{found_of, rows_of}
-use Rattle.command_words.proofs.CommandLemmas.{count_most, count_progress, count_workers}
+use Rattle.command_words.proofs.CommandLemmas.{count_most, count_progress}
 use Rattle.command_words.proofs.ExtentLemmas.{no_extent}
 use Rattle.command_words.proofs.MisfitLemmas.{misfits}
 use Rattle.command_words.specs.Orders.{IsExtent, IsGiven}
@@ -8,9 +8,6 @@ use Rattle.command_words.proofs.readings.count.Goals as goal
 
 pub extent-requires : goal.extent-requires
 extent-requires c = count_most (rows_of (found_of c.args.matches.now)) c.requires
-
-pub number-workers-requires : goal.number-workers-requires
-number-workers-requires c = (omega arith, count_workers (rows_of (found_of c.args.matches.now)) c.requires)
 
 pub flag-progress-requires : goal.flag-progress-requires
 flag-progress-requires c = count_progress (rows_of (found_of c.args.matches.now)) c.requires
@@ -25,11 +22,11 @@ returns-in-Given-clause-order c =
     let rows = rows_of (found_of c.args.matches.now) in
     let given : IsGiven rows c.in-Given.given = search rules in
     let extent : IsExtent rows c.in-Some.extent = search rules in
-    (c.count_given.ensures rows given extent).0
+    (c.count_given.ensures rows given extent (c.in-Ok.workers, c.in-Ok.ensures.asked)).0
 
 pub returns-in-Given-clause-refused : goal.returns-in-Given-clause-refused
 returns-in-Given-clause-refused c =
     let rows = rows_of (found_of c.args.matches.now) in
     let given : IsGiven rows c.in-Given.given = search rules in
     let extent : IsExtent rows c.in-Some.extent = search rules in
-    (c.count_given.ensures rows given extent).1
+    (c.count_given.ensures rows given extent (c.in-Ok.workers, c.in-Ok.ensures.asked)).1

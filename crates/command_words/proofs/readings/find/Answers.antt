@@ -1,6 +1,6 @@
 use Rattle.std.proofs.Common.{arith, codes}
 use Rattle.clap.specs.Words.{found_of, rows_of}
-use Rattle.command_words.proofs.CommandLemmas.{find_first, find_orbits, find_progress, find_puzzle, find_seed, find_workers}
+use Rattle.command_words.proofs.CommandLemmas.{find_first, find_orbits, find_progress, find_puzzle, find_seed}
 use Rattle.command_words.proofs.MisfitLemmas.{misfits, no_find}
 use Rattle.command_words.proofs.readings.find.Goals as goal
 
@@ -16,13 +16,10 @@ number-first-requires c = (omega arith, find_first (rows_of (found_of c.args.mat
 pub seed-seed-requires : goal.seed-seed-requires
 seed-seed-requires c = find_seed (rows_of (found_of c.args.matches.now)) c.requires
 
-pub number-workers-requires : goal.number-workers-requires
-number-workers-requires c = (omega arith, find_workers (rows_of (found_of c.args.matches.now)) c.requires)
-
 pub flag-progress-requires : goal.flag-progress-requires
 flag-progress-requires c = find_progress (rows_of (found_of c.args.matches.now)) c.requires
 
 pub returns-in-Err-clause-refused : goal.returns-in-Err-clause-refused
 returns-in-Err-clause-refused c =
     let rows = rows_of (found_of c.args.matches.now) in
-    misfits (codes "find") rows c.misfit.result c.misfit.ensures (no_find rows c.in-Err.ensures.refused)
+    misfits (codes "find") rows c.misfit.result c.misfit.ensures (no_find rows (λ orbits asks has. c.in-Err.ensures.refused orbits asks))
