@@ -1,5 +1,5 @@
 -- Arrangements that have all chosen options.
-use Rattle.std.proofs.Common.{◌<◌, ◌≤◌, ◌↔◌, ℕ, List, Option, None, Some, MatchOption, Contains, length, arith, sym, ◌∙◌, subst, ⊎_elim}
+use Rattle.std.proofs.Common.{◌↔◌, ℕ, List, Option, MatchOption, Contains, arith, sym, ◌∙◌, subst}
 use Rattle.match_puzzle.specs.declared.placements.Placement.{Placement}
 use Rattle.match_puzzle.proofs.NumberLemmas.{just_one}
 use Rattle.xcc_form.specs.ExactCover.{IsSolution}

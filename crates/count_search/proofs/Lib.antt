@@ -16,3 +16,6 @@ pub mod DecidingLemmas
 pub mod ExistenceLemmas
 pub mod ExchangeLemmas
 pub mod WeightLemmas
+pub mod TotalSums
+pub mod BalanceLemmas
+pub mod BalanceStepLemmas

@@ -7,3 +7,5 @@ pub mod Children
 pub mod Extensions
 pub mod Weights
 pub mod ChunkTotals
+pub mod Balance
+pub mod BalanceSteps

@@ -6,19 +6,20 @@ ghost use Rattle.count_search.specs.Looks.{AreLooks};
 ghost use Rattle.count_search.specs.Extensions.{IsExtension, HasExtensions};
 
 use crate::rules::ItemRule;
+use crate::ruling_out::RulesOut;
 use crate::weights::weight_of;
 use std::alloc::AllocError;
-use xcc_form::OpenOptions;
 
 /// Returns how many arrangements have all chosen options, or `None` where there are more than `most`.
 ///
-/// It branches on the item that `rule` names, and keeps nothing of what it finds. Of the options that show the same it
+/// It branches on the item that `rule` names, unless the engine rules out what is chosen, and keeps nothing of what it
+/// finds. Of the options that show the same it
 /// chooses only the first, which counts for all of them: `looks` has to name, for an option, the first that shows the
 /// same. Whatever it chooses it takes back.
 ///
 /// An error comes where memory is refused.
 #[cycle(count_below)]
-pub fn count_below<E: OpenOptions>(
+pub fn count_below<E: RulesOut>(
     engine: &mut E,
     rule: ItemRule,
     looks: &[Option<u32>],
@@ -32,6 +33,9 @@ pub fn count_below<E: OpenOptions>(
     ensures most { IfOk result (λ o. IfSome o (λ count. count ≤ most)) }
 {
     let _right = engine.chosen();
+    if engine.is_ruled_out() {
+        return Ok(Some(0));
+    }
     let Some(item) = rule.item_of(engine) else {
         return Ok(if most == 0 { None } else { Some(1) });
     };

@@ -8,6 +8,7 @@ ghost use Rattle.xcc_form.specs.Options.{Compiled};
 ghost use Rattle.count_search.specs.Looks.{AreLooks};
 ghost use Rattle.count_search.specs.ChunkTotals.{AreChunkTotals};
 
+use crate::balanced_sets::BalancedSets;
 use crate::branches::Branch;
 use crate::looks::looks_of;
 use crate::spreads::spread;
@@ -16,7 +17,6 @@ use crate::watches::CensusWatch;
 use std::alloc::{AllocError, Global};
 use std::thread::Threads;
 use steal_crew::{Work, run_crew};
-use xcc_dance::OpenSets;
 use xcc_form::Xcc;
 
 // The number of jobs for each worker, so that all workers end at about the same time.
@@ -68,7 +68,7 @@ impl<'a, 'l, 'w, 'b, W: CensusWatch> Work for Chunks<'a, 'l, 'w, 'b, W> {
         let rest = &self.branches[number as usize * self.size..];
         let chunk = &rest[..self.size.min(rest.len())];
         let means = &self.means;
-        let mut engine = OpenSets::new(means.alloc, means.xcc)?;
+        let mut engine = BalancedSets::new(means.alloc, means.xcc)?;
         count_branches(&mut engine, means.looks, means.watch, chunk, u64::MAX)
     }
 }

@@ -1,6 +1,8 @@
 //! Counts arrangements by a search that keeps none of them.
 #![tactic(auto)]
 
+mod balanced_sets;
+mod balances;
 mod branches;
 mod children;
 mod counting;
@@ -12,6 +14,7 @@ mod looks;
 mod parts;
 mod roots;
 mod rules;
+mod ruling_out;
 mod short_counts;
 mod splits;
 mod spreads;
@@ -19,6 +22,7 @@ mod totals;
 mod watches;
 mod weights;
 
+pub use balanced_sets::BalancedSets;
 pub use branches::Branch;
 pub use counting::count_below;
 pub use crews::{Count, count_with_crew};
@@ -30,6 +34,7 @@ pub use laws::{
 };
 pub use parts::part_of;
 pub use rules::ItemRule;
+pub use ruling_out::RulesOut;
 pub use short_counts::count_if_short;
 pub use splits::{MOST_BRANCHES, split};
 pub use totals::count_arrangements;

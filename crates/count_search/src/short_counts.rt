@@ -4,13 +4,14 @@ ghost use Rattle.std.specs.Prelude.{◌≡◌, [], IfOk, IfSome};
 ghost use Rattle.match_puzzle.specs.Arrangement.{HasArrangements};
 ghost use Rattle.count_search.specs.Looks.{AreLooks};
 
+use crate::balanced_sets::BalancedSets;
 use crate::counting::count_below;
 use crate::dives::shorter_search;
 use crate::looks::looks_of;
 use crate::rules::ItemRule;
+use crate::ruling_out::RulesOut;
 use std::alloc::{AllocError, Global};
 use std::marker::Model;
-use xcc_dance::OpenSets;
 use xcc_form::{OpenOptions, Xcc};
 
 // The most nodes that dives may guess of a search which is tried as it is. A longer one is worth a plan.
@@ -30,7 +31,7 @@ pub fn count_if_short(alloc: Global, xcc: &Xcc<'_>) -> Result<Option<u64>, Alloc
     ensures { IfOk result (λ o. IfSome o (HasArrangements xcc.now.puzzle)) }
 {
     let _puzzle = xcc.puzzle();
-    let mut engine = OpenSets::new(alloc, xcc)?;
+    let mut engine = BalancedSets::new(alloc, xcc)?;
     let guess = shorter_search(&mut engine, xcc.cells())?;
     if guess.nodes > MOST_NODES {
         return Ok(None);
@@ -65,7 +66,7 @@ fn counted_within(
 // Contracts see it as the engine within.
 #[derive(Drop)]
 struct BoundedSets<'a> {
-    sets: OpenSets<'a>,
+    sets: BalancedSets<'a>,
     left: u64,
 }
 
@@ -122,5 +123,11 @@ impl<'a> OpenOptions for BoundedSets<'a> {
 
     fn undo(&mut self) {
         self.sets.undo();
+    }
+}
+
+impl<'a> RulesOut for BoundedSets<'a> {
+    fn is_ruled_out(&self) -> bool {
+        self.sets.is_ruled_out()
     }
 }

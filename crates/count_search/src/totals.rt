@@ -8,22 +8,22 @@ ghost use Rattle.count_search.specs.Looks.{AreLooks};
 ghost use Rattle.count_search.specs.Branches.{AllChoose, HaveTogether, HaveMoreTogether, IsSplit};
 ghost use Rattle.count_search.specs.Extensions.{IsExtension, HasExtensions};
 
+use crate::balanced_sets::BalancedSets;
 use crate::branches::Branch;
 use crate::counting::count_below;
 use crate::crews::Count;
 use crate::looks::looks_of;
 use crate::rules::ItemRule;
+use crate::ruling_out::RulesOut;
 use crate::spreads::spread;
 use crate::watches::CensusWatch;
 use std::alloc::{AllocError, Global};
-use xcc_dance::OpenSets;
-use xcc_form::OpenOptions;
 
 // How many arrangements these branches have together, each counted as often as its weight says; `None` where they have
 // more than `most`. Nothing is chosen before.
 //
 // An error comes where memory is refused.
-pub(crate) fn count_branches<E: OpenOptions, W: CensusWatch>(
+pub(crate) fn count_branches<E: RulesOut, W: CensusWatch>(
     engine: &mut E,
     looks: &[Option<u32>],
     watch: &W,
@@ -55,7 +55,7 @@ pub(crate) fn count_branches<E: OpenOptions, W: CensusWatch>(
 
 // How many arrangements have the chosen options and these; `None` where there are more than `most`.
 #[cycle(count_with)]
-fn count_with<E: OpenOptions>(
+fn count_with<E: RulesOut>(
     engine: &mut E,
     looks: &[Option<u32>],
     options: &[u32],
@@ -103,6 +103,6 @@ pub fn count_arrangements<W: CensusWatch>(
     let _puzzle = xcc.puzzle();
     let looks = looks_of(alloc, xcc)?;
     let spread = spread(alloc, branches)?;
-    let mut engine = OpenSets::new(alloc, xcc)?;
+    let mut engine = BalancedSets::new(alloc, xcc)?;
     count_branches(&mut engine, &looks, watch, &spread, most)
 }

@@ -11,10 +11,10 @@ use crate::listed::Listed;
 use crate::searches::{Progress, Search};
 use crate::walks::walk;
 use crate::watches::FindWatch;
+use count_search::BalancedSets;
 use match_puzzle::Arrangement;
 use rand_core::SeedableRng;
 use rand_xoshiro::Xoshiro256PlusPlus;
-use xcc_dance::OpenSets;
 
 // How many nodes the first pass may visit while it finds nothing. Each further one may visit 1.3 times as many.
 const FIRST_FUEL: u64 = 1000;
@@ -33,7 +33,7 @@ impl<'a, 's, 'w, W: FindWatch> Search<'a, 's, 'w, W> {
         ensures too_many { let find = self.now.find in IsErrOf result FindFault.TooMany
             → HasTooLargeOrbit find.xcc.now.puzzle (map line_of find.symmetries.now) }
     {
-        let mut engine = OpenSets::new(self.alloc, self.find.xcc)?;
+        let mut engine = BalancedSets::new(self.alloc, self.find.xcc)?;
         let mut progress = Progress {
             listed: Listed::new(self.alloc, self.hasher),
             random: Xoshiro256PlusPlus::seed_from_u64(seed),
@@ -50,7 +50,7 @@ impl<'a, 's, 'w, W: FindWatch> Search<'a, 's, 'w, W> {
     // Passes until one is not spent, or another worker is done. What the last one lists is listed then.
     fn run_passes(
         &self,
-        engine: &mut OpenSets<'_>,
+        engine: &mut BalancedSets<'_>,
         progress: &mut Progress,
     ) -> Result<Ended, FindFault>
         requires symmetries { AreSymmetriesOf self.now.find.xcc.now.puzzle self.now.find.symmetries.now }
@@ -76,7 +76,7 @@ impl<'a, 's, 'w, W: FindWatch> Search<'a, 's, 'w, W> {
     // A pass, which begins with nothing listed.
     fn run_pass(
         &self,
-        engine: &mut OpenSets<'_>,
+        engine: &mut BalancedSets<'_>,
         progress: &mut Progress,
         fuel: Option<u64>,
     ) -> Result<Ended, FindFault>

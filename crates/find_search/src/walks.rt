@@ -16,6 +16,7 @@ use crate::faults::FindFault;
 use crate::searches::{Progress, Search};
 use crate::turns::Turn;
 use crate::watches::FindWatch;
+use count_search::RulesOut;
 use rand_core::Rng;
 use std::alloc::AllocError;
 use xcc_form::{Chooses, FewestOptions, LeastLeftOfFew, OpenOptions, option_behind};
@@ -28,7 +29,7 @@ const FURTHER: u32 = 4;
 ///
 /// Whatever it chooses it takes back.
 #[cycle(walk)]
-pub(crate) fn walk<E: OpenOptions, W: FindWatch>(
+pub(crate) fn walk<E: RulesOut, W: FindWatch>(
     engine: &mut E,
     search: &Search<'_, '_, '_, W>,
     progress: &mut Progress,
@@ -50,6 +51,9 @@ pub(crate) fn walk<E: OpenOptions, W: FindWatch>(
     progress.nodes = progress.nodes.wrapping_add(1);
     if let Some(ended) = search.ended(progress) {
         return Ok(ended);
+    }
+    if engine.is_ruled_out() {
+        return Ok(Ended::Whole);
     }
     match item_of(engine, progress)? {
         Some(item) => walk_item(engine, search, progress, item),
@@ -76,7 +80,7 @@ fn item_of<E: OpenOptions>(engine: &mut E, progress: &Progress) -> Result<Option
 
 // Lists the arrangements that have all chosen options and one of the item's.
 #[cycle(walk)]
-fn walk_item<E: OpenOptions, W: FindWatch>(
+fn walk_item<E: RulesOut, W: FindWatch>(
     engine: &mut E,
     search: &Search<'_, '_, '_, W>,
     progress: &mut Progress,
@@ -119,7 +123,7 @@ fn walk_item<E: OpenOptions, W: FindWatch>(
 
 // Lists the arrangements that have all chosen options and one that comes in turn.
 #[cycle(walk)]
-fn walk_options<E: OpenOptions, W: FindWatch>(
+fn walk_options<E: RulesOut, W: FindWatch>(
     engine: &mut E,
     search: &Search<'_, '_, '_, W>,
     progress: &mut Progress,

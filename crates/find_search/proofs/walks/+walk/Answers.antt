@@ -23,6 +23,12 @@ walk-returns-in-Some-clause-adds g t c =
     adds_none s.compiled.puzzle c.args.search.now.find.symmetries.now (IsExtension s) c.args.progress.now.listed c.in-Some.ended c.requires.may.list
     (λ whole. absurd (c.ended.ensures.whole (c.in-Some.is ∙ ap Some whole)))
 
+pub walk-returns-then-is_ruled_out-clause-adds : goal.walk-returns-then-is_ruled_out-clause-adds
+walk-returns-then-is_ruled_out-clause-adds g t c =
+    let s = g.E.OpenOptions.selection c.args.engine.now in
+    adds_none s.compiled.puzzle c.args.search.now.find.symmetries.now (IsExtension s) c.args.progress.now.listed Whole c.requires.may.list
+    (λ whole a is. absurd (c.is_ruled_out.ensures c.if-is_ruled_out.true a is))
+
 pub walk-add_leaf-requires-clause-covered : goal.walk-add_leaf-requires-clause-covered
 walk-add_leaf-requires-clause-covered g t c =
     let s = g.E.OpenOptions.selection c.args.engine.now in
