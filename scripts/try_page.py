@@ -423,6 +423,8 @@ def refused(page, texts):
     yield from checked(page, paths, trial.line)
     if re.search(r"\bcomplete \d|no other|are right", page.value('document.querySelector("#answer").innerText')):
         yield "it praises a list that is refused"
+    # What was checked is shown a moment after the answer.
+    page.at_last(lambda: page.value('!document.querySelector("#checked").hidden'), bool)
     if page.value('document.querySelectorAll("svg").length'):
         yield "it draws arrangements that may be none"
     spoken = page.at_last(page.spoken, lambda it: trial.line in it)
