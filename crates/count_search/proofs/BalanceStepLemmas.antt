@@ -1,5 +1,5 @@
 -- How the numbers of a balance change, one side after the other.
-use Rattle.std.proofs.Common.{◌≡◌, ◌<◌, ◌≤◌, ◌+◌, ◌==◌, ℕ, zero, suc, Bool, List, length, get_or, set, refl, sym, ap, ◌∙◌, arith, ⊎_elim, eq-eqb, get_or-set_same, get_or-set_other}
+use Rattle.std.proofs.Common.{◌≡◌, ◌<◌, ◌≤◌, ◌+◌, ◌==◌, ℕ, zero, suc, Bool, List, length, get_or, set, sym, ap, ◌∙◌, arith, ⊎_elim, eq-eqb, get_or-set_same, get_or-set_other}
 use Rattle.std.proofs.lemmas.Bool.{ne_eqb}
 use Rattle.std.proofs.lemmas.Bool.Decides.{eqb_tells}
 use Rattle.match_limits.specs.declared.TheConstants.{MOST_COLOURS}
@@ -37,48 +37,34 @@ Adds row gives sides before after = (s k : ℕ) → s < 4 → k < MOST_COLOURS
     → (row s < sides → get_or after (place_of s k) 0 ≡ get_or before (place_of s k) 0 + one_if (gives (row s) k))
     × (sides ≤ row s → get_or after (place_of s k) 0 ≡ get_or before (place_of s k) 0)
 
--- each side has a row of its own
-pub record AreRows (row : ℕ → ℕ) : Type 0 where
-  pub below : (s : ℕ) → s < 4 → row s < 4
-  pub back : (s : ℕ) → s < 4 → row (row s) ≡ s
+-- where each side has its own row, and the next one gives this colour
+module _ (gives : ℕ → ℕ → Bool) (side : ℕ) (before after : List ℕ) (adds : Adds (λ s. s) gives side before after) (colour : ℕ) (colour_few : colour < MOST_COLOURS) (one : (k : ℕ) → gives side k ≡ (colour == k)) where
+  -- what is greater by one is so just where the side and its colour are counted
+  at_its_row : (s k : ℕ) → k < MOST_COLOURS → s ≡ side → one_if (place_of s k == place_of side colour) ≡ one_if (gives s k)
+  at_its_row s k few same =
+      ap one_if
+      (⊎_elim
+      (λ is. eq-eqb (place_of s k) (place_of side colour) (omega (arith, same, is.1)) ∙ sym is.0)
+      (λ other. ne_eqb (place_of s k) (place_of side colour) (λ e. other.1 (omega (arith, same, e))) ∙ sym other.0)
+      (eqb_tells colour k) ∙ sym (one k) ∙ ap (λ r. gives r k) (sym same))
 
-pub own_rows : AreRows (λ s. s)
-own_rows = record { below = λ s lt. lt; back = λ s lt. refl }
+  at_other_rows : (s k : ℕ) → k < MOST_COLOURS → (s ≡ side → ⊥) → one_if (place_of s k == place_of side colour) ≡ 0
+  at_other_rows s k few other = ap one_if (ne_eqb (place_of s k) (place_of side colour) (λ e. other (omega (arith, e, few, colour_few))))
 
-module _ (row : ℕ → ℕ) (rows : AreRows row) (gives : ℕ → ℕ → Bool) where
-  module _ (side : ℕ) (side_in : side < 4) (before after : List ℕ) (adds : Adds row gives side before after) where
-    module _ (colour : ℕ) (colour_few : colour < MOST_COLOURS) (one : (k : ℕ) → gives side k ≡ (colour == k)) where
-      -- what is greater by one is so just where the side and its colour are counted
-      at_its_row : (s k : ℕ) → s < 4 → k < MOST_COLOURS → row s ≡ side → one_if (place_of s k == place_of (row side) colour) ≡ one_if (gives (row s) k)
-      at_its_row s k lt few same =
-          let its : s ≡ row side = sym (rows.back s lt) ∙ ap row same in
-          ap one_if
-          (⊎_elim
-          (λ is. eq-eqb (place_of s k) (place_of (row side) colour) (omega (arith, its, is.1)) ∙ sym is.0)
-          (λ other. ne_eqb (place_of s k) (place_of (row side) colour) (λ e. other.1 (omega (arith, its, e))) ∙ sym other.0)
-          (eqb_tells colour k) ∙ sym (one k) ∙ ap (λ r. gives r k) (sym same))
-
-      at_other_rows : (s k : ℕ) → s < 4 → k < MOST_COLOURS → (row s ≡ side → ⊥) → one_if (place_of s k == place_of (row side) colour) ≡ 0
-      at_other_rows s k lt few other =
-          ap one_if (ne_eqb (place_of s k) (place_of (row side) colour) (λ e.
-          let its : s ≡ row side = omega (arith, e, few, colour_few) in
-          other (ap row its ∙ rows.back side side_in)))
-
-      -- a side that gives one colour, counted too
-      pub adds_one : (after' : List ℕ) → IsOneMore (place_of (row side) colour) after after' → Adds row gives (side + 1) before after'
-      adds_one after' more s k lt few =
-          let more_here = delta (place_of (row side) colour) after after' more (place_of s k) in
-          ⊎_elim
-          (λ same.
-          let its = at_its_row s k lt few same.1 in
-          let old = (adds s k lt few).1 (omega (arith, same.1)) in
-          (λ less. omega (arith, more_here, its, old), λ le. absurd (omega (arith, le, same.1))))
-          (λ other.
-          let none = at_other_rows s k lt few other.1 in (
-            λ less. let old = (adds s k lt few).0 (omega (arith, less, other.1)) in omega (arith, more_here, none, old),
-            λ le. let old = (adds s k lt few).1 (omega (arith, le)) in omega (arith, more_here, none, old),
-          ))
-          (eqb_tells (row s) side)
+  pub adds_one : (after' : List ℕ) → IsOneMore (place_of side colour) after after' → Adds (λ s. s) gives (side + 1) before after'
+  adds_one after' more s k lt few =
+      let more_here = delta (place_of side colour) after after' more (place_of s k) in
+      ⊎_elim
+      (λ same.
+      let its = at_its_row s k few same.1 in
+      let old = (adds s k lt few).1 (omega (arith, same.1)) in
+      (λ less. omega (arith, more_here, its, old), λ le. absurd (omega (arith, le, same.1))))
+      (λ other.
+      let none = at_other_rows s k few other.1 in (
+        λ less. let old = (adds s k lt few).0 (omega (arith, less, other.1)) in omega (arith, more_here, none, old),
+        λ le. let old = (adds s k lt few).1 (omega (arith, le)) in omega (arith, more_here, none, old),
+      ))
+      (eqb_tells s side)
 
 -- ---- free sides
 

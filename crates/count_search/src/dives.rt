@@ -5,11 +5,12 @@
 ghost use Rattle.std.specs.Prelude.{◌≡◌};
 
 use crate::rules::ItemRule;
+use crate::ruling_out::RulesOut;
 use rand_core::{Rng, SeedableRng};
 use rand_xoshiro::Xoshiro256PlusPlus;
 use std::alloc::{AllocError, Global};
 use xcc_dance::OpenSets;
-use xcc_form::{OpenOptions, Xcc, option_behind};
+use xcc_form::{Xcc, option_behind};
 
 // The seed of the random numbers. It is always the same, so that each call makes the same split.
 const SEED: u64 = 1975;
@@ -44,7 +45,7 @@ pub(crate) struct GuessedSearch {
 
 // The rule by which a search from where the engine is has the fewest nodes, as dives guess. The puzzle has this many
 // cells.
-pub(crate) fn shorter_search<E: OpenOptions>(
+pub(crate) fn shorter_search<E: RulesOut>(
     engine: &mut E,
     cells: u16,
 ) -> Result<GuessedSearch, AllocError>
@@ -57,7 +58,7 @@ pub(crate) fn shorter_search<E: OpenOptions>(
 }
 
 // How many nodes a search by this rule has, as dives guess.
-fn guessed_search<E: OpenOptions>(
+fn guessed_search<E: RulesOut>(
     engine: &mut E,
     cells: u16,
     rule: ItemRule,
@@ -102,7 +103,7 @@ impl Dives {
     }
 
     // The mean of `dives` dives from where the engine is.
-    pub(crate) fn mean<E: OpenOptions>(
+    pub(crate) fn mean<E: RulesOut>(
         &mut self,
         engine: &mut E,
         dives: u64,
@@ -119,10 +120,13 @@ impl Dives {
 
     // One dive, of at most `levels` levels.
     #[cycle(dive)]
-    fn dive<E: OpenOptions>(&mut self, engine: &mut E, levels: u16) -> Result<u64, AllocError>
+    fn dive<E: RulesOut>(&mut self, engine: &mut E, levels: u16) -> Result<u64, AllocError>
         ensures { engine.new ≡ engine.old }
     {
         self.steps = self.steps.saturating_add(1);
+        if engine.is_ruled_out() {
+            return Ok(1);
+        }
         let Some(item) = self.rule.item_of(engine) else {
             return Ok(1);
         };

@@ -7,6 +7,7 @@ ghost use Rattle.xcc_form.specs.Clashes.{IsOpen};
 
 use crate::branches::Branch;
 use crate::dives::Dives;
+use crate::ruling_out::RulesOut;
 use crate::splits::Splitter;
 use std::alloc::{AllocError, Global};
 use xcc_form::{OpenOptions, open_option, uncovered_item};
@@ -41,7 +42,7 @@ struct Ranked {
 
 // The item to branch on for which dives guess the fewest nodes; `None` where all items are covered, and, below the
 // root, where a guess would take longer than it saves.
-pub(crate) fn guessed_item<E: OpenOptions>(
+pub(crate) fn guessed_item<E: RulesOut>(
     splitter: &Splitter<'_>,
     engine: &mut E,
     cells: u16,
@@ -58,7 +59,7 @@ pub(crate) fn guessed_item<E: OpenOptions>(
 }
 
 // Whether a guess saves more than it takes: at the root, and where dives expect many nodes.
-fn is_worth_a_guess<E: OpenOptions>(engine: &mut E, dives: &mut Dives) -> Result<bool, AllocError>
+fn is_worth_a_guess<E: RulesOut>(engine: &mut E, dives: &mut Dives) -> Result<bool, AllocError>
     ensures { engine.new ≡ engine.old }
 {
     if engine.chosen().is_empty() {
@@ -69,7 +70,7 @@ fn is_worth_a_guess<E: OpenOptions>(engine: &mut E, dives: &mut Dives) -> Result
 }
 
 // The best of these items, by rounds of dives, each of which leaves the better half.
-fn best_of<E: OpenOptions>(
+fn best_of<E: RulesOut>(
     splitter: &Splitter<'_>,
     engine: &mut E,
     dives: &mut Dives,
@@ -144,7 +145,7 @@ fn how_many(items: &[Ranked], most: u64) -> usize {
 }
 
 // The better half of these items, by `count` dives below each child.
-fn better_half<E: OpenOptions>(
+fn better_half<E: RulesOut>(
     splitter: &Splitter<'_>,
     engine: &mut E,
     dives: &mut Dives,
@@ -175,7 +176,7 @@ fn sort(items: &mut [Ranked]) {
 }
 
 // A guess of how many nodes a search has that branches on this item, by `count` dives below each child.
-fn guess<E: OpenOptions>(
+fn guess<E: RulesOut>(
     splitter: &Splitter<'_>,
     engine: &mut E,
     dives: &mut Dives,
@@ -200,7 +201,7 @@ fn guess<E: OpenOptions>(
 }
 
 // A guess of how many nodes there are below an open option, by `count` dives.
-fn guess_with<E: OpenOptions>(
+fn guess_with<E: RulesOut>(
     splitter: &Splitter<'_>,
     engine: &mut E,
     dives: &mut Dives,
@@ -218,7 +219,7 @@ fn guess_with<E: OpenOptions>(
 }
 
 // A guess of how many nodes there are below, by `count` dives; where symmetries merge children, from each that is left.
-fn guess_below<E: OpenOptions>(
+fn guess_below<E: RulesOut>(
     splitter: &Splitter<'_>,
     engine: &mut E,
     dives: &mut Dives,
@@ -242,7 +243,7 @@ fn guess_below<E: OpenOptions>(
 
 // A guess of how many nodes there are where these children of an item are its branches, by `count` dives for all of
 // them.
-fn nodes_by<E: OpenOptions>(
+fn nodes_by<E: RulesOut>(
     engine: &mut E,
     dives: &mut Dives,
     item: u32,
@@ -263,7 +264,7 @@ fn nodes_by<E: OpenOptions>(
 }
 
 // The mean of `count` dives below an open option.
-fn mean_with<E: OpenOptions>(
+fn mean_with<E: RulesOut>(
     engine: &mut E,
     dives: &mut Dives,
     option: u32,
